@@ -1,18 +1,49 @@
 -- A run that took its whole text, and what it then wrote.
-use Rattle.std.proofs.Common.{◌≡◌, ℕ, Bool, true, false, length, Option, None, List, [], ◌++◌, refl, sym, subst, ap, ◌∙◌, inl, arith}
+use Rattle.std.proofs.Common.{◌≡◌, ℕ, Bool, true, false, length, Option, Some, None, List, [], ◌++◌, Ok, refl, sym, subst, ap, ◌∙◌, inl, arith}
+use Rattle.std.specs.Prelude.{IfSome}
 use Rattle.std.specs.Io.KnownBytes.{Appends, Consumes}
 use Rattle.std.proofs.KnownBytes.{Appends-trans, Consumes-whole}
+use Rattle.line_text.specs.declared.bad_word.BadWord.{BadWord}
 use Rattle.ports.specs.Contents.{IsUsedUp}
 use Rattle.ports.specs.Count.{counted, next_count}
-use Rattle.play.specs.Plays.{IoState, Unfailed}
+use Rattle.play.specs.Plays.{IoState, StopsRun, Unfailed}
+use Rattle.play.specs.declared.stop.Stop.TheVariants as stop
+use Rattle.text_trace.specs.Lines.{seen, text_lines}
+use Rattle.text_trace.specs.Trace.{Continuation, Every, Trace}
 use Rattle.whole_text.specs.Gathered.{IsWhole, Judging, lines_from, owed_whole, told_of, unread}
+use Rattle.authority.specs.Telling.{IsTold}
 use Rattle.command_line.specs.Causes.{Says}
-use Rattle.command_line.specs.Ends.{Counts, Tells}
+use Rattle.command_line.specs.Ends.{Counts, Is, Tells}
 use Rattle.command_line.specs.TracedAs.{IsOwedBehind, TracedWhole}
 use Rattle.command_line.proofs.EndLemmas.{none_shorter}
-use Rattle.command_line.proofs.TraceLemmas.{at-end, seen-whole}
+use Rattle.command_line.proofs.TraceLemmas.{at-end, refused-told, seen-whole}
 use Rattle.command_line.specs.declared.status.Status.{Status}
 use Rattle.command_line.specs.declared.status.Status.TheVariants as status
+
+-- nothing failed, and nothing more was done
+pub still-unfailed : (was between mid : IoState) → Unfailed was between → mid ≡ between → Unfailed was mid
+still-unfailed was between mid fine same = subst (Unfailed was) (sym same) fine
+
+-- nothing failed, and then these bytes were written
+pub told-unfailed : (was between mid : IoState) (text : List ℕ) → Unfailed was between → IsTold between mid text → Unfailed was mid
+told-unfailed was between mid text fine told = record { reads = told.unfailed.reads ∙ fine.reads; writes = told.unfailed.writes ∙ fine.writes }
+
+-- the lines that were read of a whole text are those that its bytes are
+pub same-lines : {F L : Type 0} (j : Judging F L) (form : F) (was between : IoState) (all : List ℕ) (read lines : List L) → was.left ≡ Some all → IsWhole j form was between read → lines_from j (unread form) (seen all) ≡ Ok lines → read ≡ lines
+same-lines j form was between all read lines left whole are =
+    let bytes : all ≡ whole.bytes = subst (λ o. IfSome o (λ x. x ≡ whole.bytes)) left (Consumes-whole was.left between.left whole.bytes (λ x. x ≡ whole.bytes) whole.read (at-end between.left whole.used_up) refl) in
+    let both : Ok read ≡ Ok lines = sym whole.are ∙ ap (lines_from j (unread form)) (sym (ap seen bytes ∙ seen-whole whole.seen_lines whole.bytes whole.taken.whole)) ∙ are in
+    cc
+
+abbrev cause_of : Trace BadWord → Option BadWord
+cause_of t = t.cause
+
+-- a text whose trace has no cause isn't refused
+pub unrefused : (owed : Continuation BadWord) (was mid : IoState) (all : List ℕ) (line : ℕ) (w : BadWord) → was.left ≡ Some all → StopsRun BadWord Every (Is owed) text_lines was mid (stop.Refused line w) → (owed (seen all)).cause ≡ None → ⊥
+unrefused owed was mid all line w left stood none =
+    let told = subst (λ o. IfSome o (λ bytes. owed (seen bytes) ≡ record { output = stood.text; cause = Some w })) left
+    (refused-told owed stood.lines stood.bytes stood.text w stood.last was.left mid.left stood.read stood.taken.whole stood.stands stood.refuses) in
+    let e : Some w ≡ None = sym (ap cause_of told) ∙ none in cc
 
 pub whole-traced : {F L : Type 0} (j : Judging F L) (form : F) (tell : List L → List ℕ) (lines : List L) (was between mid now : IoState) (cause s : Status) (text rest : List ℕ)
     → IsWhole j form was between lines → Appends between.taken mid.taken text → mid.left ≡ between.left → tell lines ≡ text ++ rest → IsOwedBehind rest cause → Tells cause mid now s → TracedWhole (owed_whole j form tell) was now s

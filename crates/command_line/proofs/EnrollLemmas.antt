@@ -1,17 +1,14 @@
 -- What follows from how an enrolment ended.
-use Rattle.std.proofs.Common.{◌≡◌, ◌≢◌, ◌+◌, ◌<◌, ◌≤◌, ◌⊎◌, ℕ, true, false, length, take, drop, map, Option, Some, None, List, [], ◌∷◌, ◌++◌, Result, Ok, Err, refl, sym, subst, ap, ◌∙◌, inl, inr, arith, append-nil, append_assoc, length-append, take-append-drop, ltb, lt-ltb}
+use Rattle.std.proofs.Common.{◌≡◌, ◌≢◌, ◌+◌, ◌<◌, ◌≤◌, ◌⊎◌, ℕ, true, false, length, take, drop, Option, Some, None, List, [], ◌∷◌, ◌++◌, Result, Ok, Err, refl, sym, subst, ap, ◌∙◌, inl, inr, arith, append-nil, append_assoc, length-append, take-append-drop, ltb, lt-ltb}
 use Rattle.std.specs.Prelude.{IfSome}
-use Rattle.std.specs.List.{AllByRecursion}
 use Rattle.std.specs.Io.KnownBytes.{Appends}
 use Rattle.std.proofs.Math.Nat.{le-max_right}
-use Rattle.std.proofs.KnownBytes.{Appends-nil, Appends-trans, Consumes-whole}
+use Rattle.std.proofs.KnownBytes.{Appends-nil, Appends-trans}
 use Rattle.secrets.proofs.StoreTags.{length-store_tag}
-use Rattle.line_text.specs.declared.bad_word.BadWord.{BadWord}
 use Rattle.lms_tree.specs.Leaves.{index_count}
 use Rattle.lms_tree.specs.Lms.{public_of}
 use Rattle.ports.specs.Count.{next_count}
-use Rattle.ports.specs.Disk.{Fails, Moment, Since, stays}
-use Rattle.ports.proofs.SinceLemmas.{Since-same}
+use Rattle.ports.specs.Disk.{Moment}
 use Rattle.epoch_store.specs.declared.seat.Seat.{Seat}
 use Rattle.epoch_store.specs.declared.StoreError.{StoreError}
 use Rattle.epoch_store.specs.declared.StoreError.TheVariants as store
@@ -22,14 +19,11 @@ use Rattle.epoch_store.specs.Store.{StoreOf}
 use Rattle.epoch_store.proofs.FoundLemmas.{one_state, store_found}
 use Rattle.play.specs.Plays.{IoState, Unfailed}
 use Rattle.play.specs.declared.stop.Stop.TheVariants as stop
-use Rattle.records.specs.declared.Body.TheVariants.{Certificate}
 use Rattle.records.specs.declared.CertBody.{CertBody}
 use Rattle.schedule_texts.specs.declared.line.RosterLine.{RosterLine}
 use Rattle.schedule_texts.specs.declared.roster.RosterText.TheVariants as roster
-use Rattle.signer.specs.Lives.{EndsLives, EndsNow, IsRising, Spent, indexes, spent_by}
-use Rattle.signer.proofs.LivingLemmas.{kept_by_opening}
 use Rattle.text_trace.specs.Lines.{seen}
-use Rattle.text_trace.specs.Trace.{Every, Trace}
+use Rattle.text_trace.specs.Trace.{Every}
 use Rattle.whole_text.specs.Gathered.{lines_from, told_of, unread}
 use Rattle.authority.specs.declared.halt.Halt.{Halt}
 use Rattle.authority.specs.declared.halt.Halt.TheVariants as halt
@@ -41,18 +35,17 @@ use Rattle.authority.specs.Telling.{IsTold}
 use Rattle.authority.specs.Texts.{IsRoster}
 use Rattle.authority.specs.Lines.{enrolled, lines_for, lines_within, signed_line, signed_lines, told_at_end}
 use Rattle.authority.specs.Signing.{IsPart}
-use Rattle.authority.specs.Enrolling.{AreEnrolled, Enrols, IsEnough, Spends, SpendsFronts}
+use Rattle.authority.specs.Enrolling.{AreEnrolled, Enrols, IsEnough}
 use Rattle.command_line.specs.Causes.{for_word, status_of_halt}
 use Rattle.command_line.specs.Ends.{Counts, DiskCounts, Tells}
-use Rattle.command_line.specs.Enrolment.{Enrolment}
 use Rattle.command_line.specs.Traced.{IsComplete}
-use Rattle.command_line.specs.TracedAs.{EnrollCompletes, IsFound, IsOwedBehind, NoneFailed, OnImage, TracedRoster, TracedWhole}
+use Rattle.command_line.specs.TracedAs.{EnrollCompletes, FoundToEnroll, IsOwedBehind, NoneFailed, OnImage, TracedFound, TracedWhole, enrolled_from}
 use Rattle.command_line.specs.TracedAs as as_
-use Rattle.command_line.proofs.BehindLemmas.{cut-by, done-by, or-cut, whole-traced}
+use Rattle.command_line.proofs.BehindLemmas.{cut-by, done-by, or-cut, same-lines, still-unfailed, told-unfailed, unrefused, whole-traced}
 use Rattle.command_line.proofs.CompleteLemmas.{rose}
 use Rattle.command_line.proofs.EndLemmas.{counts-by, for-words}
 use Rattle.command_line.proofs.StoreLemmas.{first-answered}
-use Rattle.command_line.proofs.TraceLemmas.{at-end, refused-told, seen-whole, traced}
+use Rattle.command_line.proofs.TraceLemmas.{traced}
 use Rattle.command_line.specs.declared.status.Status.{Status}
 use Rattle.command_line.specs.declared.status.Status.TheVariants as status
 
@@ -71,11 +64,11 @@ written was between mid now s lines next first answer text rest read told same o
     whole-traced roster_judging roster.Start (told_at_end next) lines was between mid now first answer text rest read.whole told.wrote told.left (told-lines was between s lines next read ∙ same) owing tells
 
 -- nothing was written behind the text, whatever store there is
-silent : (was between mid now : IoState) (s : Setting) (lines : List RosterLine) (first answer : Status) → IsRoster was between s lines → mid ≡ between → ((rest : List ℕ) → IsOwedBehind rest first) → Tells first mid now answer → (next : ℕ) → TracedWhole (enrolled next) was now answer
-silent was between mid now s lines first answer read same owing tells next =
-    let rest = lines_for next (asked_in lines) s in
-    whole-traced roster_judging roster.Start (told_at_end next) lines was between mid now first answer [] rest read.whole
-    (subst (λ m. Appends between.taken m.taken []) (sym same) (Appends-nil between.taken)) (ap (λ m. m.left) same) (told-lines was between s lines next read) (owing rest) tells
+silent : (was between mid now : IoState) (s : Setting) (lines : List RosterLine) (first answer : Status) → IsRoster was between s lines → mid ≡ between → ((rest : List ℕ) → IsOwedBehind rest first) → Tells first mid now answer → (o : Stored) → TracedWhole (enrolled_from o) was now answer
+silent was between mid now s lines first answer read same owing tells o =
+    let rest = lines_for o.next (asked_in lines) s in
+    whole-traced roster_judging roster.Start (told_at_end o.next) lines was between mid now first answer [] rest read.whole
+    (subst (λ m. Appends between.taken m.taken []) (sym same) (Appends-nil between.taken)) (ap (λ m. m.left) same) (told-lines was between s lines o.next read) (owing rest) tells
 
 -- the lines of the first certificates, and then those of the others
 pub split-within : (s : Setting) (i : ℕ) (done rest : List CertBody) → i + length done ≤ index_count (key_of s) → lines_within s.group (key_of s) i (done ++ rest) ≡ signed_lines s.group (key_of s) i done ++ lines_within s.group (key_of s) (i + length done) rest
@@ -98,20 +91,20 @@ first-written was between mid now s lines next done one part first answer read f
     written was between mid now s lines next first answer (signed_lines s.group (key_of s) next done) rest read told
     (ap (λ cs. lines_within s.group (key_of s) next cs) part.are ∙ split-within s next done (one ∷ part.rest) few) (owing rest) tells
 
-found-of : (name : List ℕ) (s : Setting) (certs : List CertBody) (o : Stored) (old new : OfDisk) → AreEnrolled name s o certs old new → IsFound o old
-found-of name s certs o old new e = record { setting = s; seat = e.seat; found = e.found }
+found-of : (name : List ℕ) (was between : IoState) (s : Setting) (lines : List RosterLine) (certs : List CertBody) (o : Stored) (old new : OfDisk) → IsRoster was between s lines → AreEnrolled name s o certs old new → FoundToEnroll o was old
+found-of name was between s lines certs o old new read e = record { setting = s; lines = lines; between = between; read = read; seat = e.seat; found = e.found }
 
-found-either : (name : List ℕ) (s : Setting) (done more : List CertBody) (o : Stored) (old new : OfDisk) → AreEnrolled name s o done old new ⊎ AreEnrolled name s o more old new → IsFound o old
-found-either name s done more o old new (inl e) = found-of name s done o old new e
-found-either name s done more o old new (inr e) = found-of name s more o old new e
+found-either : (name : List ℕ) (was between : IoState) (s : Setting) (lines : List RosterLine) (done more : List CertBody) (o : Stored) (old new : OfDisk) → IsRoster was between s lines → AreEnrolled name s o done old new ⊎ AreEnrolled name s o more old new → FoundToEnroll o was old
+found-either name was between s lines done more o old new read (inl e) = found-of name was between s lines done o old new read e
+found-either name was between s lines done more o old new read (inr e) = found-of name was between s lines more o old new read e
 
-pub enroll-traced : (name : List ℕ) (was mid now : IoState) (old new : OfDisk) (r : Answer) (s : Status) → Enrols name was mid old new r → Tells (status_of_halt r) mid now s → TracedRoster was now old s
+pub enroll-traced : (name : List ℕ) (was mid now : IoState) (old new : OfDisk) (r : Answer) (s : Status) → Enrols name was mid old new r → Tells (status_of_halt r) mid now s → TracedFound FoundToEnroll enrolled_from was now old s
 enroll-traced name was mid now old new (Ok _) s h t =
     let e = h.rest in
-    as_.Opened e.opened (found-of name h.setting (asked_in h.lines) e.opened old new e.enrolled)
+    as_.Opened e.opened (found-of name was h.between h.setting h.lines (asked_in h.lines) e.opened old new h.read e.enrolled)
     (written was h.between mid now h.setting h.lines e.opened.next status.Ok s (lines_for e.opened.next (asked_in h.lines) h.setting) [] h.read e.told (sym (append-nil (lines_for e.opened.next (asked_in h.lines) h.setting))) refl t)
-enroll-traced name was mid now old new (Err (halt.Refused line w)) s h t = as_.CutOff (λ next. traced Every for_word (enrolled next) was now s (record { result = Err (stop.Refused line w); between = mid; runs = h.0 (told_at_end next); tells = t }))
-enroll-traced name was mid now old new (Err halt.ReadFault) s h t = as_.CutOff (λ next. traced Every for_word (enrolled next) was now s (record { result = Err stop.ReadFault; between = mid; runs = h.0 (told_at_end next); tells = t }))
+enroll-traced name was mid now old new (Err (halt.Refused line w)) s h t = as_.CutOff (λ o. traced Every for_word (enrolled_from o) was now s (record { result = Err (stop.Refused line w); between = mid; runs = h.0 (told_at_end o.next); tells = t }))
+enroll-traced name was mid now old new (Err halt.ReadFault) s h t = as_.CutOff (λ o. traced Every for_word (enrolled_from o) was now s (record { result = Err stop.ReadFault; between = mid; runs = h.0 (told_at_end o.next); tells = t }))
 enroll-traced name was mid now old new (Err halt.WriteFault) s h t =
     let e = h.rest in
     let cut = e.cut.wrote in
@@ -124,63 +117,57 @@ enroll-traced name was mid now old new (Err halt.WriteFault) s h t =
     ap (λ cs. lines_within g k e.opened.next cs) e.part.are ∙ split-within h.setting e.opened.next e.done (e.one ∷ e.part.rest) (omega (arith, e.within))
     ∙ ap (λ (x : List ℕ). before ++ x) (one-within h.setting (e.opened.next + length e.done) e.one e.part.rest e.within ∙ ap (λ (x : List ℕ). x ++ behind) (sym (take-append-drop cut.count line)) ∙ append_assoc (take cut.count line) (drop cut.count line) behind)
     ∙ sym (append_assoc before (take cut.count line) (drop cut.count line ++ behind)) in
-    as_.Opened e.opened (found-of name h.setting (e.done ++ e.one ∷ []) e.opened old new e.enrolled)
+    as_.Opened e.opened (found-of name was h.between h.setting h.lines (e.done ++ e.one ∷ []) e.opened old new h.read e.enrolled)
     (whole-traced roster_judging roster.Start (told_at_end e.opened.next) h.lines was h.between mid now status.WriteFault s (before ++ take cut.count line) (drop cut.count line ++ behind) h.read.whole
     (Appends-trans h.between.taken e.mid.taken mid.taken before (take cut.count line) e.told.wrote cut.gained) (e.cut.left ∙ e.told.left) (told-lines was h.between h.setting h.lines e.opened.next h.read ∙ same) tt t)
 enroll-traced name was mid now old new (Err halt.StoreFault) s h t =
     elim h.rest [
       | inl opening ↦ as_.Unopened (silent was h.between mid now h.setting h.lines status.StoreFault s h.read opening.0 (λ rest. tt) t)
-      | inr e ↦ as_.Opened e.opened (record { setting = h.setting; seat = e.seat; found = e.found }) (first-written was h.between mid now h.setting h.lines e.opened.next e.done e.one e.part status.StoreFault s h.read (omega (arith, e.within)) e.told (λ rest. tt) t)
+      | inr e ↦ as_.Opened e.opened (record { setting = h.setting; lines = h.lines; between = h.between; read = h.read; seat = e.seat; found = e.found }) (first-written was h.between mid now h.setting h.lines e.opened.next e.done e.one e.part status.StoreFault s h.read (omega (arith, e.within)) e.told (λ rest. tt) t)
     ]
 enroll-traced name was mid now old new (Err (halt.StoreBroken place byte)) s h t = as_.Unopened (silent was h.between mid now h.setting h.lines (status.StoreBroken place byte) s h.read h.rest.0 (λ rest. tt) t)
 enroll-traced name was mid now old new (Err (halt.StoreTaken len)) s h t = absurd h.rest
 enroll-traced name was mid now old new (Err (halt.Exhausted next)) s h t =
     let e = h.rest in
-    as_.Opened e.opened (found-of name h.setting e.done e.opened old new e.enrolled)
+    as_.Opened e.opened (found-of name was h.between h.setting h.lines e.done e.opened old new h.read e.enrolled)
     (written was h.between mid now h.setting h.lines e.opened.next (status.Exhausted next) s (lines_for e.opened.next (asked_in h.lines) h.setting) [] h.read e.told (sym (append-nil (lines_for e.opened.next (asked_in h.lines) h.setting))) refl t)
 enroll-traced name was mid now old new (Err halt.OutOfMemory) s h t =
     elim h [
-      | inl cut ↦ as_.CutOff (λ next. traced Every for_word (enrolled next) was now s (record { result = Err stop.OutOfMemory; between = mid; runs = cut.0 (told_at_end next); tells = t }))
+      | inl cut ↦ as_.CutOff (λ o. traced Every for_word (enrolled_from o) was now s (record { result = Err stop.OutOfMemory; between = mid; runs = cut.0 (told_at_end o.next); tells = t }))
       | inr w ↦ elim w.rest [
         | inl opening ↦ as_.Unopened (silent was w.between mid now w.setting w.lines status.OutOfMemory s w.read opening.0 (λ rest. tt) t)
-        | inr e ↦ as_.Opened e.opened (found-either name w.setting e.done (e.done ++ e.one ∷ []) e.opened old new e.enrolled) (first-written was w.between mid now w.setting w.lines e.opened.next e.done e.one e.part status.OutOfMemory s w.read e.within e.told (λ rest. tt) t)
+        | inr e ↦ as_.Opened e.opened (found-either name was w.between w.setting w.lines e.done (e.done ++ e.one ∷ []) e.opened old new w.read e.enrolled) (first-written was w.between mid now w.setting w.lines e.opened.next e.done e.one e.part status.OutOfMemory s w.read e.within e.told (λ rest. tt) t)
       ]
     ]
 
 -- ## The counts
 
-whole-unfailed : (was between mid : IoState) (s : Setting) (lines : List RosterLine) → IsRoster was between s lines → mid ≡ between → Unfailed was mid
-whole-unfailed was between mid s lines read same = subst (Unfailed was) (sym same) read.whole.unfailed
-
-told-unfailed : (was between mid : IoState) (s : Setting) (lines : List RosterLine) (text : List ℕ) → IsRoster was between s lines → IsTold between mid text → Unfailed was mid
-told-unfailed was between mid s lines text read told = record { reads = told.unfailed.reads ∙ read.whole.unfailed.reads; writes = told.unfailed.writes ∙ read.whole.unfailed.writes }
-
 pub enroll-counts : (name : List ℕ) (was mid now : IoState) (old new : OfDisk) (r : Answer) (s : Status) → Enrols name was mid old new r → Tells (status_of_halt r) mid now s → Counts was now s
-enroll-counts name was mid now old new (Ok _) s h t = done-by was mid now t.failed status.Ok t.line s tt (told-unfailed was h.between mid h.setting h.lines _ h.read h.rest.told) t.says t.reads t.writes
+enroll-counts name was mid now old new (Ok _) s h t = done-by was mid now t.failed status.Ok t.line s tt (told-unfailed was h.between mid _ h.read.whole.unfailed h.rest.told) t.says t.reads t.writes
 enroll-counts name was mid now old new (Err (halt.Refused line w)) s h t = counts-by Every for_word (enrolled 0) was mid now t.failed (Err (stop.Refused line w)) t.line s for-words (h.0 (told_at_end 0)) t.says t.reads t.writes
 enroll-counts name was mid now old new (Err halt.ReadFault) s h t = counts-by Every for_word (enrolled 0) was mid now t.failed (Err stop.ReadFault) t.line s for-words (h.0 (told_at_end 0)) t.says t.reads t.writes
 enroll-counts name was mid now old new (Err halt.WriteFault) s h t =
     let e = h.rest in
-    let before = told-unfailed was h.between e.mid h.setting h.lines _ h.read e.told in
+    let before = told-unfailed was h.between e.mid _ h.read.whole.unfailed e.told in
     cut-by was mid now t.failed t.line s (e.cut.reads ∙ before.reads) (e.cut.writes ∙ ap next_count before.writes) t.says t.reads t.writes
 enroll-counts name was mid now old new (Err halt.StoreFault) s h t =
     let before : Unfailed was mid = elim h.rest [
-      | inl opening ↦ whole-unfailed was h.between mid h.setting h.lines h.read opening.0
-      | inr e ↦ told-unfailed was h.between mid h.setting h.lines _ h.read e.told
+      | inl opening ↦ still-unfailed was h.between mid h.read.whole.unfailed opening.0
+      | inr e ↦ told-unfailed was h.between mid _ h.read.whole.unfailed e.told
     ] in
     done-by was mid now t.failed status.StoreFault t.line s tt before t.says t.reads t.writes
 enroll-counts name was mid now old new (Err (halt.StoreBroken place byte)) s h t =
-    done-by was mid now t.failed (status.StoreBroken place byte) t.line s tt (whole-unfailed was h.between mid h.setting h.lines h.read h.rest.0) t.says t.reads t.writes
+    done-by was mid now t.failed (status.StoreBroken place byte) t.line s tt (still-unfailed was h.between mid h.read.whole.unfailed h.rest.0) t.says t.reads t.writes
 enroll-counts name was mid now old new (Err (halt.StoreTaken len)) s h t = absurd h.rest
 enroll-counts name was mid now old new (Err (halt.Exhausted next)) s h t =
-    done-by was mid now t.failed (status.Exhausted next) t.line s tt (told-unfailed was h.between mid h.setting h.lines _ h.read h.rest.told) t.says t.reads t.writes
+    done-by was mid now t.failed (status.Exhausted next) t.line s tt (told-unfailed was h.between mid _ h.read.whole.unfailed h.rest.told) t.says t.reads t.writes
 enroll-counts name was mid now old new (Err halt.OutOfMemory) s h t =
     elim h [
       | inl cut ↦ counts-by Every for_word (enrolled 0) was mid now t.failed (Err stop.OutOfMemory) t.line s for-words (cut.0 (told_at_end 0)) t.says t.reads t.writes
       | inr w ↦
           let before : Unfailed was mid = elim w.rest [
-            | inl opening ↦ whole-unfailed was w.between mid w.setting w.lines w.read opening.0
-            | inr e ↦ told-unfailed was w.between mid w.setting w.lines _ w.read e.told
+            | inl opening ↦ still-unfailed was w.between mid w.read.whole.unfailed opening.0
+            | inr e ↦ told-unfailed was w.between mid _ w.read.whole.unfailed e.told
           ] in
           done-by was mid now t.failed status.OutOfMemory t.line s tt before t.says t.reads t.writes
     ]
@@ -209,10 +196,7 @@ enroll-disk name was mid now old new (Err halt.OutOfMemory) s h t =
 
 -- ## Where it is whole
 
-abbrev cause_of : Trace BadWord → Option BadWord
-cause_of t = t.cause
-
-tag-long : (s : Setting) → length (tag_of s) ≡ 32
+pub tag-long : (s : Setting) → length (tag_of s) ≡ 32
 tag-long s = length-store_tag s.group (public_of (key_of s))
 
 -- the roster that was read is the one that is told
@@ -222,14 +206,12 @@ record IsSame (s : Setting) (lines : List RosterLine) (setting : Setting) (asked
 
 same-roster : (was between : IoState) (all : List ℕ) (s : Setting) (lines : List RosterLine) (setting : Setting) (asked : List RosterLine) → was.left ≡ Some all → IsRoster was between s lines → lines_from roster_judging (unread roster.Start) (seen all) ≡ Ok asked → roster_setting asked ≡ Some setting → IsSame s lines setting asked
 same-roster was between all s lines setting asked left read are sets =
-    let bytes : all ≡ read.whole.bytes = subst (λ o. IfSome o (λ x. x ≡ read.whole.bytes)) left (Consumes-whole was.left between.left read.whole.bytes (λ x. x ≡ read.whole.bytes) read.whole.read (at-end between.left read.whole.used_up) refl) in
-    let both : Ok lines ≡ Ok asked = sym read.whole.are ∙ ap (lines_from roster_judging (unread roster.Start)) (sym (ap seen bytes ∙ seen-whole read.whole.seen_lines read.whole.bytes read.whole.taken.whole)) ∙ are in
-    let same : lines ≡ asked = cc in
+    let same = same-lines roster_judging roster.Start was between all lines asked left read.whole are in
     let one : Some s ≡ Some setting = sym read.setting ∙ ap roster_setting same ∙ sets in
     record { lines_are = same; setting_is = cc }
 
 -- a store that is there is opened
-abbrev failed : StoreError → Result StoreState StoreError
+abbrev pub failed : StoreError → Result StoreState StoreError
 failed e = Err e
 
 unread-opened : (tag image : List ℕ) (o : Stored) (e : StoreError) → length tag ≡ 32 → StoreOf tag image o → AnswersAs tag image (failed e) → ⊥
@@ -269,11 +251,7 @@ enroll-whole : (name : List ℕ) (was mid now : IoState) (old new : OfDisk) (r :
     → lines_from roster_judging (unread roster.Start) (seen all) ≡ Ok asked → roster_setting asked ≡ Some setting → OnImage old.moments (λ image. StoreOf (tag_of setting) image o) → IsEnough setting o.next (asked_in asked) → NoneFailed was now old new → s ≡ status_of_halt r → IsComplete (status_of_halt r)
 enroll-whole name was mid now old new (Ok _) s all asked setting o left h counts are sets there enough fine is = inl refl
 enroll-whole name was mid now old new (Err (halt.Refused line w)) s all asked setting o left h counts are sets there enough fine is =
-    let stood = h.0 (told_at_end 0) in
-    let told = subst (λ x. IfSome x (λ bytes. enrolled 0 (seen bytes) ≡ record { output = stood.text; cause = Some w })) left
-    (refused-told (enrolled 0) stood.lines stood.bytes stood.text w stood.last was.left mid.left stood.read stood.taken.whole stood.stands stood.refuses) in
-    let none : (enrolled 0 (seen all)).cause ≡ None = ap (λ x. (told_of (told_at_end 0) x).cause) are in
-    absurd (let e : Some w ≡ None = sym (ap cause_of told) ∙ none in cc)
+    absurd (unrefused (enrolled 0) was mid all line w left (h.0 (told_at_end 0)) (ap (λ x. (told_of (told_at_end 0) x).cause) are))
 enroll-whole name was mid now old new (Err halt.ReadFault) s all asked setting o left h counts are sets there enough fine is =
     let at : Counts was now status.ReadFault = subst (Counts was now) is counts in
     absurd (fine.reads (rose was.read_faults now.read_faults at.0))

@@ -1,15 +1,15 @@
 -- What an enrolment has spent of its key, whatever ended it.
-use Rattle.std.proofs.Common.{◌≡◌, ◌+◌, ◌<◌, ◌≤◌, ◌⊎◌, ℕ, false, length, map, max, take, drop, ltb, Option, List, [], ◌∷◌, ◌++◌, Result, Ok, Err, refl, sym, subst, ap, ◌∙◌, inl, inr, arith, append-nil, append_assoc, take-append-drop}
+use Rattle.std.proofs.Common.{◌≡◌, ◌+◌, ◌<◌, ◌≤◌, ◌⊎◌, ℕ, false, length, map, take, drop, ltb, Option, List, [], ◌∷◌, ◌++◌, Result, Ok, Err, refl, sym, subst, ap, ◌∙◌, inl, inr, arith, append-nil, append_assoc, take-append-drop}
 use Rattle.std.specs.List.{AllByRecursion}
 use Rattle.std.specs.Io.KnownBytes.{Appends}
 use Rattle.std.proofs.Math.Nat.{le-max_right}
-use Rattle.std.proofs.KnownBytes.{Appends-nil, Appends-trans}
+use Rattle.std.proofs.KnownBytes.{Appends-trans}
 use Rattle.std.proofs.lemmas.Bool.Decides.{nat_tests}
 use Rattle.lms_tree.specs.Leaves.{index_count}
 use Rattle.ports.specs.Contents.{TookFront}
-use Rattle.ports.specs.Disk.{Fails, Since, stays}
+use Rattle.ports.specs.Disk.{Fails, stays}
 use Rattle.ports.specs.Outside.{OfDisk}
-use Rattle.ports.proofs.SinceLemmas.{Since-same}
+use Rattle.ports.proofs.SinceLemmas.{Fails-same}
 use Rattle.epoch_store.specs.declared.seat.Seat.{Seat}
 use Rattle.epoch_store.specs.declared.Stored.{Stored}
 use Rattle.epoch_store.specs.Calls.{HoldsStore}
@@ -21,15 +21,15 @@ use Rattle.records.specs.declared.Body.TheVariants.{Certificate}
 use Rattle.records.specs.declared.CertBody.{CertBody}
 use Rattle.schedule_texts.specs.declared.line.RosterLine.{RosterLine}
 use Rattle.schedule_texts.specs.declared.roster.RosterText.TheVariants as roster
-use Rattle.signer.specs.Lives.{EndsLives, EndsNow, IsRising, Spent, indexes, note_epochs, spent_by}
+use Rattle.signer.specs.Lives.{IsRising, Spent, indexes, note_epochs, spent_by}
 use Rattle.signer.proofs.LivingLemmas.{kept_by_opening}
-use Rattle.whole_text.specs.Gathered.{IsUnfinished}
+use Rattle.whole_text.specs.Gathered.{IsUnfinished, Judging}
 use Rattle.authority.specs.declared.halt.Halt.{Halt}
 use Rattle.authority.specs.declared.halt.Halt.TheVariants as halt
 use Rattle.authority.specs.declared.setting.Setting.{Setting}
 use Rattle.authority.specs.Settings.{asked_in, key_of, roster_judging, tag_of}
 use Rattle.authority.specs.Texts.{IsRoster}
-use Rattle.authority.specs.Lines.{lines_for, lines_within, signed_line, signed_lines}
+use Rattle.authority.specs.Lines.{lines_for, lines_within, signed_line}
 use Rattle.authority.specs.Signing.{IsPart}
 use Rattle.authority.specs.Enrolling.{AreEnrolled, Enrols, IsEnough, Spends, SpendsFronts}
 use Rattle.node_command.proofs.RestLemmas.{silent-unread}
@@ -157,22 +157,24 @@ spends-certs was between mid s lines o seat certs others old new read found firs
       any_moment = fronts;
     })
 
-untouched : (was now : IoState) (old new : OfDisk) → Appends was.taken now.taken [] → new ≡ old → SpendsCerts was now old new
-untouched was now old new none same = inl (record {
-  unwritten = none;
-  any_moment = λ tag image spent ends. subst (λ (d : OfDisk). Since (EndsLives tag image spent) old.moments d.moments) (sym same) (Since-same (EndsLives tag image spent) old.moments);
-  ends = λ tag image spent ends. subst (λ (d : OfDisk). EndsNow tag image spent d.moments) (sym same) ends;
-})
-
-unread : (was now : IoState) (old new : OfDisk) (s : Stop BadWord) → IsUnfinished roster_judging roster.Start was now s × (new ≡ old) → SpendsCerts was now old new
-unread was now old new s h = untouched was now old new (silent-unread roster_judging roster.Start was now s h.0) h.1
-
-kept-over : (was between mid : IoState) (s : Setting) (lines : List RosterLine) (old new : OfDisk) → IsRoster was between s lines → mid ≡ between → Fails stays old.moments new.moments → SpendsCerts was mid old new
-kept-over was between mid s lines old new read same fails = inl (record {
-  unwritten = subst (λ (m : IoState). Appends was.taken m.taken []) (sym same) read.whole.wrote;
+-- nothing was written or put
+pub spends-none : (before after : Option (List ℕ)) (old new : OfDisk) → Appends before after [] → Fails stays old.moments new.moments → SpendsNone before after old new
+spends-none before after old new unwritten fails = record {
+  unwritten = unwritten;
   any_moment = λ tag image spent ends. (kept_by_opening tag image spent old.moments new.moments ends fails).0;
   ends = λ tag image spent ends. (kept_by_opening tag image spent old.moments new.moments ends fails).1;
-})
+}
+
+pub spends-none-unread : {F L : Type 0} (j : Judging F L) (form : F) (was now : IoState) (old new : OfDisk) (s : Stop BadWord) → IsUnfinished j form was now s → new ≡ old → SpendsNone was.taken now.taken old new
+spends-none-unread j form was now old new s cut same =
+    spends-none was.taken now.taken old new (silent-unread j form was now s cut) (Fails-same old.moments new.moments (ap (λ (d : OfDisk). d.moments) same))
+
+unread : (was now : IoState) (old new : OfDisk) (s : Stop BadWord) → IsUnfinished roster_judging roster.Start was now s × (new ≡ old) → SpendsCerts was now old new
+unread was now old new s h = inl (spends-none-unread roster_judging roster.Start was now old new s h.0 h.1)
+
+kept-over : (was between mid : IoState) (s : Setting) (lines : List RosterLine) (old new : OfDisk) → IsRoster was between s lines → mid ≡ between → Fails stays old.moments new.moments → SpendsCerts was mid old new
+kept-over was between mid s lines old new read same fails =
+    inl (spends-none was.taken mid.taken old new (subst (λ (m : IoState). Appends was.taken m.taken []) (sym same) read.whole.wrote) fails)
 
 -- the first ones, or one more
 one-more : (certs done : List CertBody) (one : CertBody) (part : IsPart certs done one) → certs ≡ (done ++ one ∷ []) ++ part.rest

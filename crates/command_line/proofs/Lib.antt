@@ -9,6 +9,8 @@ pub mod BehindLemmas
 pub mod StoreLemmas
 pub mod EnrollLemmas
 pub mod EnrolmentLemmas
+pub mod MigrateLemmas
+pub mod MigrationLemmas
 pub mod NodeLemmas
 pub mod JournalLemmas
 pub mod OpenedLemmas

@@ -1,6 +1,6 @@
 -- What follows from how the run of a member ended.
 use Rattle.std.proofs.Common.{◌≡◌, ◌≢◌, ℕ, Bool, true, false, length, Option, Some, None, List, [], ◌∷◌, ◌++◌, Result, Ok, Err, refl, sym, subst, ap, ◌∙◌, inl, inr, arith}
-use Rattle.std.specs.Prelude.{IfErr, IfSome, OnOk}
+use Rattle.std.specs.Prelude.{IfErr, OnOk}
 use Rattle.std.specs.Io.KnownBytes.{Appends, Consumes}
 use Rattle.std.proofs.KnownBytes.{Appends-trans, Consumes-whole}
 use Rattle.line_text.specs.declared.bad_word.BadWord.{BadWord}
@@ -12,14 +12,13 @@ use Rattle.play.specs.declared.stop.Stop.TheVariants as stop
 use Rattle.schedule_texts.specs.declared.kit.KitText.TheVariants as kit
 use Rattle.schedule_texts.specs.declared.kit_line.KitLine.{KitLine}
 use Rattle.text_trace.specs.Lines.{seen, text_lines}
-use Rattle.text_trace.specs.Trace.{Every, Continuation, Trace}
+use Rattle.text_trace.specs.Trace.{Every, Continuation}
 use Rattle.whole_text.specs.Gathered.{IsWhole, lines_from, nothing, owed_whole, told_of, unread}
 use Rattle.ports.specs.Outside.{OfDisk}
 use Rattle.node_command.specs.declared.halt.NodeHalt.{NodeHalt}
 use Rattle.node_command.specs.declared.halt.NodeHalt.TheVariants as halt
 use Rattle.node_command.specs.declared.stay.Stay.{Stay}
 use Rattle.node_command.specs.Members.{kit_judging}
-use Rattle.node_command.specs.Opening.{OpensFile}
 use Rattle.node_command.specs.Running.{IsCaused, Takes, TookAlone, TookWhole}
 use Rattle.node_command.specs.Spendings.{Spends}
 use Rattle.command_line.specs.Causes.{RunEnd, Says, cause_line, for_word, status_of, status_of_node}
@@ -27,10 +26,10 @@ use Rattle.command_line.specs.Ends.{Counts, Is, NodeCounts, NodeEnds, RestsFed, 
 use Rattle.command_line.specs.Serving.{IsBehindText, IsNodeDone, IsUntouched, NodeTraced, NodeTraced.CutOff, NodeTraced.Whole, NodeUpheld, OnUnrefused, TakenWhole}
 use Rattle.command_line.specs.Traced.{Traced}
 use Rattle.command_line.specs.TracedAs.{NodeEndsWell, NoneFailed}
-use Rattle.command_line.proofs.BehindLemmas.{cut-by, done-by, or-cut}
+use Rattle.command_line.proofs.BehindLemmas.{cut-by, done-by, or-cut, unrefused}
 use Rattle.command_line.proofs.CompleteLemmas.{rose}
 use Rattle.command_line.proofs.EndLemmas.{counts-by, for-words}
-use Rattle.command_line.proofs.TraceLemmas.{at-end, refused-told, seen-whole, traced}
+use Rattle.command_line.proofs.TraceLemmas.{at-end, seen-whole, traced}
 use Rattle.command_line.specs.declared.status.Status.{Status}
 use Rattle.command_line.specs.declared.status.Status.TheVariants as status
 
@@ -41,11 +40,11 @@ Answer = Result (Unit {0}) NodeHalt
 abbrev told_by : (List KitLine → List ℕ) → Continuation BadWord
 told_by tell = owed_whole kit_judging kit.Start tell
 
-pub node-ends : (name : List ℕ) (stay : Stay) (was mid now : IoState) (old new : OfDisk) (before after : NetState) (r : Answer) (first s : Status) → Takes was mid old new r → IsCaused was old new r → OpensFile name old new r → OnOk r (new.faults ≡ old.faults)
+pub node-ends : (name : List ℕ) (stay : Stay) (was mid now : IoState) (old new : OfDisk) (before after : NetState) (r : Answer) (first s : Status) → Takes was mid old new r → IsCaused name was old new r → OnOk r (new.faults ≡ old.faults)
     → IfErr r (λ h. h ≡ halt.StoreFault → Rose old.faults new.faults) → IfErr r (λ h. h ≡ halt.LinkFault → after.faults ≡ next_count before.faults) → RunsFed stay was mid old new before after r
     → RestsFed stay was mid old before r → Spends was mid old new before.faults after.faults r → first ≡ status_of_node r → Tells first mid now s → NodeEnds name stay was now old new before after s
-node-ends name stay was mid now old new before after r first s takes cause opened no_disk_fault store link runs rests spends is tells =
-    record { result = r; between = mid; takes = takes; cause = cause; opened = opened; no_disk_fault = no_disk_fault; store_fault = store; link_fault = link; runs = runs; rests = rests; spends = spends; tells = subst (λ f. Tells f mid now s) is tells }
+node-ends name stay was mid now old new before after r first s takes cause no_disk_fault store link runs rests spends is tells =
+    record { result = r; between = mid; takes = takes; cause = cause; no_disk_fault = no_disk_fault; store_fault = store; link_fault = link; runs = runs; rests = rests; spends = spends; tells = subst (λ f. Tells f mid now s) is tells }
 
 -- ## What was taken
 
@@ -200,17 +199,11 @@ node-upheld was mid now old new (Err halt.OutOfMemory) s h t = or-cut t.failed s
 
 -- ## Where it is whole
 
-abbrev cause_in : Trace BadWord → Option BadWord
-cause_in t = t.cause
-
 pub node-whole : (was mid now : IoState) (old new : OfDisk) (r : Answer) (s : Status) (all : List ℕ) → was.left ≡ Some all → Takes was mid old new r → IfErr r (λ h. h ≡ halt.StoreFault → Rose old.faults new.faults) → Counts was now s
     → (told_by nothing (seen all)).cause ≡ None → NoneFailed was now old new → s ≡ status_of_node r → IsNodeDone (status_of_node r)
 node-whole was mid now old new (Ok _) s all left h store counts none fine is = tt
 node-whole was mid now old new (Err (halt.Refused line w)) s all left h store counts none fine is =
-    let stood = h.0 nothing in
-    let told = subst (λ o. IfSome o (λ bytes. told_by nothing (seen bytes) ≡ record { output = stood.text; cause = Some w })) left
-    (refused-told (told_by nothing) stood.lines stood.bytes stood.text w stood.last was.left mid.left stood.read stood.taken.whole stood.stands stood.refuses) in
-    absurd (let e : Some w ≡ None = sym (ap cause_in told) ∙ none in cc)
+    absurd (unrefused (told_by nothing) was mid all line w left (h.0 nothing) none)
 node-whole was mid now old new (Err halt.ReadFault) s all left h store counts none fine is =
     let at : Counts was now status.ReadFault = subst (Counts was now) is counts in
     absurd (fine.reads (rose was.read_faults now.read_faults at.0))

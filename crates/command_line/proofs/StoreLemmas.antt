@@ -3,15 +3,14 @@ use Rattle.std.proofs.Common.{◌≡◌, ℕ, Bool, true, false, length, take, d
 use Rattle.std.specs.Prelude.{IfSome}
 use Rattle.std.specs.Io.KnownBytes.{Appends}
 use Rattle.std.proofs.KnownBytes.{Appends-nil}
-use Rattle.line_text.specs.declared.bad_word.BadWord.{BadWord}
 use Rattle.ports.specs.Count.{Rose, next_count}
 use Rattle.ports.specs.Disk.{Moment}
 use Rattle.epoch_store.specs.Calls.{HasLength}
-use Rattle.play.specs.Plays.{IoState, Unfailed}
+use Rattle.play.specs.Plays.{IoState}
 use Rattle.play.specs.declared.stop.Stop.TheVariants as stop
 use Rattle.schedule_texts.specs.declared.secret.SecretText.TheVariants as secret
 use Rattle.text_trace.specs.Lines.{seen}
-use Rattle.text_trace.specs.Trace.{Every, Trace}
+use Rattle.text_trace.specs.Trace.{Every}
 use Rattle.authority.specs.declared.halt.Halt.{Halt}
 use Rattle.authority.specs.declared.halt.Halt.TheVariants as halt
 use Rattle.authority.specs.declared.setting.Setting.{Setting}
@@ -24,10 +23,10 @@ use Rattle.command_line.specs.Ends.{Counts, DiskCounts, Tells}
 use Rattle.command_line.specs.Traced.{IsComplete}
 use Rattle.command_line.specs.TracedAs.{NoneFailed, OnImage, StoreCompletes, TracedEither, IsOwedBehind}
 use Rattle.command_line.specs.Upheld.{IsStoreMade, OnMade}
-use Rattle.command_line.proofs.BehindLemmas.{cut-by, done-by, or-cut, whole-traced}
+use Rattle.command_line.proofs.BehindLemmas.{cut-by, done-by, or-cut, still-unfailed, told-unfailed, unrefused, whole-traced}
 use Rattle.command_line.proofs.CompleteLemmas.{rose}
 use Rattle.command_line.proofs.EndLemmas.{counts-by, for-words}
-use Rattle.command_line.proofs.TraceLemmas.{refused-told, traced}
+use Rattle.command_line.proofs.TraceLemmas.{traced}
 use Rattle.command_line.specs.declared.status.Status.{Status}
 use Rattle.command_line.specs.declared.status.Status.TheVariants as status
 
@@ -66,24 +65,21 @@ store-traced name was mid now old new (Err halt.OutOfMemory) s h tells =
 
 -- ## The counts
 
-whole-unfailed : (was between mid : IoState) (s : Setting) → IsSecret was between s → mid ≡ between → Unfailed was mid
-whole-unfailed was between mid s read same = subst (Unfailed was) (sym same) read.whole.unfailed
-
 pub store-counts : (name : List ℕ) (was mid now : IoState) (old new : OfDisk) (r : Answer) (s : Status) → Makes name was mid old new r → Tells (status_of_halt r) mid now s → Counts was now s
 store-counts name was mid now old new (Ok _) s h t =
-    done-by was mid now t.failed status.Ok t.line s tt (record { reads = h.rest.1.unfailed.reads ∙ h.read.whole.unfailed.reads; writes = h.rest.1.unfailed.writes ∙ h.read.whole.unfailed.writes }) t.says t.reads t.writes
+    done-by was mid now t.failed status.Ok t.line s tt (told-unfailed was h.between mid (key_line_of h.setting) h.read.whole.unfailed h.rest.1) t.says t.reads t.writes
 store-counts name was mid now old new (Err (halt.Refused line w)) s h t = counts-by Every for_word stored was mid now t.failed (Err (stop.Refused line w)) t.line s for-words (h.0 told_at_end) t.says t.reads t.writes
 store-counts name was mid now old new (Err halt.ReadFault) s h t = counts-by Every for_word stored was mid now t.failed (Err stop.ReadFault) t.line s for-words (h.0 told_at_end) t.says t.reads t.writes
 store-counts name was mid now old new (Err halt.WriteFault) s h t =
     cut-by was mid now t.failed t.line s (h.rest.1.reads ∙ h.read.whole.unfailed.reads) (h.rest.1.writes ∙ ap next_count h.read.whole.unfailed.writes) t.says t.reads t.writes
-store-counts name was mid now old new (Err halt.StoreFault) s h t = done-by was mid now t.failed status.StoreFault t.line s tt (whole-unfailed was h.between mid h.setting h.read h.rest.0) t.says t.reads t.writes
+store-counts name was mid now old new (Err halt.StoreFault) s h t = done-by was mid now t.failed status.StoreFault t.line s tt (still-unfailed was h.between mid h.read.whole.unfailed h.rest.0) t.says t.reads t.writes
 store-counts name was mid now old new (Err (halt.StoreBroken place byte)) s h t = absurd h.rest
-store-counts name was mid now old new (Err (halt.StoreTaken len)) s h t = done-by was mid now t.failed (status.StoreTaken len) t.line s tt (whole-unfailed was h.between mid h.setting h.read h.rest.0) t.says t.reads t.writes
+store-counts name was mid now old new (Err (halt.StoreTaken len)) s h t = done-by was mid now t.failed (status.StoreTaken len) t.line s tt (still-unfailed was h.between mid h.read.whole.unfailed h.rest.0) t.says t.reads t.writes
 store-counts name was mid now old new (Err (halt.Exhausted next)) s h t = absurd h.rest
 store-counts name was mid now old new (Err halt.OutOfMemory) s h t =
     elim h [
       | inl unread ↦ counts-by Every for_word stored was mid now t.failed (Err stop.OutOfMemory) t.line s for-words (unread.0 told_at_end) t.says t.reads t.writes
-      | inr went ↦ done-by was mid now t.failed status.OutOfMemory t.line s tt (whole-unfailed was went.between mid went.setting went.read went.rest.0) t.says t.reads t.writes
+      | inr went ↦ done-by was mid now t.failed status.OutOfMemory t.line s tt (still-unfailed was went.between mid went.read.whole.unfailed went.rest.0) t.says t.reads t.writes
     ]
 
 pub store-disk : (name : List ℕ) (was mid now : IoState) (old new : OfDisk) (r : Answer) (s : Status) → Makes name was mid old new r → Tells (status_of_halt r) mid now s → DiskCounts old new s
@@ -126,17 +122,11 @@ empty-taken : (moments : List Moment) (len : ℕ) → HasLength moments len → 
 empty-taken [] len has empty some = empty
 empty-taken (m ∷ past) len has empty some = some (sym has ∙ empty)
 
-abbrev cause_of : Trace BadWord → Option BadWord
-cause_of t = t.cause
-
 store-whole : (name : List ℕ) (was mid now : IoState) (old new : OfDisk) (r : Answer) (s : Status) (all : List ℕ) → was.left ≡ Some all → Makes name was mid old new r → Tells (status_of_halt r) mid now s → Counts was now s
     → (stored (seen all)).cause ≡ None → OnImage old.moments (λ image. length image ≡ 0) → NoneFailed was now old new → s ≡ status_of_halt r → IsComplete (status_of_halt r)
 store-whole name was mid now old new (Ok _) s all left h t counts none empty fine is = inl refl
 store-whole name was mid now old new (Err (halt.Refused line w)) s all left h t counts none empty fine is =
-    let stood = h.0 told_at_end in
-    let told = subst (λ o. IfSome o (λ bytes. stored (seen bytes) ≡ record { output = stood.text; cause = Some w })) left
-    (refused-told stored stood.lines stood.bytes stood.text w stood.last was.left mid.left stood.read stood.taken.whole stood.stands stood.refuses) in
-    absurd (let e : Some w ≡ None = sym (ap cause_of told) ∙ none in cc)
+    absurd (unrefused stored was mid all line w left (h.0 told_at_end) none)
 store-whole name was mid now old new (Err halt.ReadFault) s all left h t counts none empty fine is =
     let at : Counts was now status.ReadFault = subst (Counts was now) is counts in
     absurd (fine.reads (rose was.read_faults now.read_faults at.0))

@@ -22,6 +22,8 @@ use Rattle.command_line.proofs.EndLemmas.{AreRefusals, IsRefusal, ends-counts, f
 use Rattle.command_line.proofs.EnrollLemmas.{enroll-completes, enroll-counts, enroll-disk, enroll-traced}
 use Rattle.command_line.proofs.EnrolmentLemmas.{enroll-upheld}
 use Rattle.command_line.proofs.HeadlineLemmas.{headline}
+use Rattle.command_line.proofs.MigrateLemmas.{migrate-completes, migrate-counts, migrate-disk, migrate-traced}
+use Rattle.command_line.proofs.MigrationLemmas.{migrate-upheld}
 use Rattle.command_line.proofs.NodeLemmas.{node-command, node-counts, node-disk, node-traced}
 use Rattle.command_line.proofs.JournalLemmas.{node-upholds}
 use Rattle.command_line.proofs.OpenedLemmas.{node-completes}
@@ -30,7 +32,7 @@ use Rattle.command_line.proofs.StoreLemmas.{store-completes, store-counts, store
 use Rattle.command_line.proofs.TraceLemmas.{traced}
 use Rattle.command_line.proofs.VerificationLemmas.{verification}
 use Rattle.command_line.specs.declared.command.Command.{Command}
-use Rattle.command_line.specs.declared.command.Command.TheVariants.{Replay, Verify, Store, Enroll, Node, Soak}
+use Rattle.command_line.specs.declared.command.Command.TheVariants.{Replay, Verify, Store, Enroll, Migrate, Node, Soak}
 use Rattle.command_line.specs.declared.status.Status.{Status}
 use Rattle.command_line.specs.declared.status.Status.TheVariants as status
 
@@ -123,12 +125,22 @@ all-of Enroll name was now old new before after s h =
       counts = n;
       faults = enroll-disk name was h.between now old new h.result s h.stands h.tells;
     }
+all-of Migrate name was now old new before after s h =
+    let n = migrate-counts name was h.between now old new h.result s h.stands h.tells in
+    record {
+      command = halt-command h.tells.failed h.result h.tells.line s h.tells.says;
+      traced = migrate-traced name was h.between now old new h.result s h.stands h.tells;
+      complete = migrate-completes name was h.between now old new h.result s h.stands h.tells n;
+      upholds = migrate-upheld name was h.between now old new h.result s h.stands h.tells;
+      counts = n;
+      faults = migrate-disk name was h.between now old new h.result s h.stands h.tells;
+    }
 all-of (Node stay) name was now old new before after s h =
     let n = node-counts was h.between now old new h.result s h.takes h.tells in
     record {
       command = node-command h.tells.failed h.result h.tells.line s h.tells.says;
       traced = node-traced was h.between now old new h.result s h.takes h.tells;
-      complete = node-completes was h.between now old new h.result s h.takes h.store_fault h.cause h.tells n;
+      complete = node-completes name was h.between now old new h.result s h.takes h.store_fault h.cause h.tells n;
       upholds = node-upholds stay was h.between now old new before after h.result s h.takes h.rests h.spends h.tells;
       counts = n;
       faults = node-disk was h.between now old new h.result s h.takes h.no_disk_fault h.store_fault h.tells;

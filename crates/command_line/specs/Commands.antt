@@ -6,7 +6,7 @@ use Rattle.line_text.specs.Fields.{number, number_in}
 use Rattle.line_text.specs.Frame.{first_word}
 use Rattle.line_text.specs.Words.{words_of}
 use Rattle.command_line.specs.declared.command.Command.{Command}
-use Rattle.command_line.specs.declared.command.Command.TheVariants.{Replay, Verify, Store, Enroll, Node, Soak}
+use Rattle.command_line.specs.declared.command.Command.TheVariants.{Replay, Verify, Store, Enroll, Migrate, Node, Soak}
 
 abbrev pub command_named : List ℕ → Option Command
 command_named word =
@@ -16,7 +16,8 @@ command_named word =
 abbrev pub command_with : List ℕ → Option Command
 command_with word =
     if bytes_eq word (codes "store") then Some Store
-    else (if bytes_eq word (codes "enroll") then Some Enroll else None)
+    else (if bytes_eq word (codes "enroll") then Some Enroll
+    else (if bytes_eq word (codes "migrate") then Some Migrate else None))
 
 -- a number that no word is bad for
 abbrev pub unless_bad : Option BadWord → ℕ → Option ℕ
@@ -96,6 +97,7 @@ takes_store Replay = false
 takes_store Verify = false
 takes_store Store = true
 takes_store Enroll = true
+takes_store Migrate = true
 takes_store (Node stay) = true
 takes_store (Soak seed members rounds) = false
 

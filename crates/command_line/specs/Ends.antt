@@ -12,11 +12,11 @@ use Rattle.text_trace.specs.Trace.{Every, Continuation}
 use Rattle.authority.specs.declared.halt.Halt.{Halt}
 use Rattle.authority.specs.Making.{Makes}
 use Rattle.authority.specs.Enrolling.{Enrols}
+use Rattle.authority.specs.Migrating.{Migrates}
 use Rattle.node_command.specs.declared.halt.NodeHalt.{NodeHalt}
 use Rattle.node_command.specs.declared.halt.NodeHalt.TheVariants as node
 use Rattle.node_command.specs.declared.stay.Stay.{Stay}
 use Rattle.node_command.specs.Journal.{environment}
-use Rattle.node_command.specs.Opening.{OpensFile}
 use Rattle.node_command.specs.Running.{NetInputs, IsCaused, Runs, Takes}
 use Rattle.node_command.specs.Spendings.{Spends}
 use Rattle.node_command.specs.Written.{LinesRest}
@@ -61,12 +61,15 @@ pub record HaltEnds (P : IoState → Result (Unit {0}) Halt → Type 0) (now : I
   pub stands : P between result
   pub tells : Tells (status_of_halt result) between now s
 
--- How the making of a store ends, and an enrolment.
+-- How the making of a store ends, an enrolment, and the move of a store.
 abbrev pub StoreEnds : List ℕ → IoState → IoState → OfDisk → OfDisk → Status → Type 0
 StoreEnds name was now old new s = HaltEnds (λ between result. Makes name was between old new result) now s
 
 abbrev pub EnrollEnds : List ℕ → IoState → IoState → OfDisk → OfDisk → Status → Type 0
 EnrollEnds name was now old new s = HaltEnds (λ between result. Enrols name was between old new result) now s
+
+abbrev pub MigrateEnds : List ℕ → IoState → IoState → OfDisk → OfDisk → Status → Type 0
+MigrateEnds name was now old new s = HaltEnds (λ between result. Migrates name was between old new result) now s
 
 -- What a node is served over: what the link holds and how often it failed, the clock's last reading and those to come.
 pub record NetState : Type 0 where
@@ -97,8 +100,7 @@ pub record NodeEnds (name : List ℕ) (stay : Stay) (was now : IoState) (old new
   pub result : Result (Unit {0}) NodeHalt
   pub between : IoState
   pub takes : Takes was between old new result
-  pub cause : IsCaused was old new result
-  pub opened : OpensFile name old new result
+  pub cause : IsCaused name was old new result
   pub no_disk_fault : OnOk result (new.faults ≡ old.faults)
   pub store_fault : IfErr result (λ h. h ≡ node.StoreFault → Rose old.faults new.faults)
   pub link_fault : IfErr result (λ h. h ≡ node.LinkFault → after.faults ≡ next_count before.faults)

@@ -1,6 +1,6 @@
 -- What an enrolment upholds: the indexes that it spends are those from the next one found on, each once, for the certificates
 -- whose lines it wrote, and at most one more.
-use Rattle.std.specs.Prelude.{◌≡◌, ℕ, ◌+◌, ◌≤◌, ◌⊎◌, Option, List, [], ◌++◌, length, map, Result}
+use Rattle.std.specs.Prelude.{◌≡◌, ℕ, ◌+◌, ◌≤◌, ◌⊎◌, Option, List, ◌++◌, length, map, Result}
 use Rattle.std.specs.List.{AllByRecursion}
 use Rattle.std.specs.Io.KnownBytes.{Appends}
 use Rattle.epoch_store.specs.declared.seat.Seat.{Seat}
@@ -9,8 +9,7 @@ use Rattle.epoch_store.specs.Calls.{HoldsStore}
 use Rattle.records.specs.declared.Body.TheVariants.{Certificate}
 use Rattle.records.specs.declared.CertBody.{CertBody}
 use Rattle.schedule_texts.specs.declared.line.RosterLine.{RosterLine}
-use Rattle.ports.specs.Disk.{Since}
-use Rattle.signer.specs.Lives.{EndsLives, EndsNow, IsOnce, IsPrefix, Spent, indexes, spent_by}
+use Rattle.signer.specs.Lives.{IsOnce, IsPrefix, indexes, spent_by}
 use Rattle.play.specs.Plays.{IoState}
 use Rattle.authority.specs.declared.halt.Halt.{Halt}
 use Rattle.authority.specs.declared.setting.Setting.{Setting}

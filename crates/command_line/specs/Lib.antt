@@ -7,6 +7,7 @@ pub mod Traced
 pub mod Soaking
 pub mod EndsAs
 pub mod Serving
+pub mod Migration
 pub mod TracedAs
 pub mod Enrolment
 pub mod Headline

@@ -11,6 +11,8 @@ use Rattle.epoch_store.specs.declared.Stored.{Stored}
 use Rattle.epoch_store.specs.Calls.{HoldsStore}
 use Rattle.epoch_store.specs.Store.{StoreOf}
 use Rattle.schedule_texts.specs.declared.line.RosterLine.{RosterLine}
+use Rattle.schedule_texts.specs.declared.line.SecretLine.{SecretLine}
+use Rattle.schedule_texts.specs.declared.migrate.MigrateText.TheVariants as migrate
 use Rattle.schedule_texts.specs.declared.roster.RosterText.TheVariants as roster
 use Rattle.schedule_texts.specs.declared.kit.KitText.TheVariants as kit
 use Rattle.schedule_texts.specs.declared.kit_line.KitLine.{KitLine}
@@ -21,21 +23,26 @@ use Rattle.world_replay.specs.Causes.{IsJudged}
 use Rattle.command_line.specs.Replayed.{replayed}
 use Rattle.verifier.specs.Answered.{verified}
 use Rattle.whole_text.specs.Gathered.{lines_from, unread}
+use Rattle.authority.specs.declared.moving.Moving.{Moving}
 use Rattle.authority.specs.declared.setting.Setting.{Setting}
 use Rattle.ports.specs.Outside.{OfDisk}
 use Rattle.authority.specs.Settings.{asked_in, roster_judging, roster_setting, tag_of}
 use Rattle.authority.specs.Making.{stored}
+use Rattle.authority.specs.Texts.{IsRoster}
 use Rattle.authority.specs.Enrolling.{IsEnough}
 use Rattle.authority.specs.Lines.{enrolled}
+use Rattle.authority.specs.Migrating.{count_of, moved_on, old_tag}
+use Rattle.authority.specs.Moved.{migrate_judging, migrate_setting}
 use Rattle.command_line.specs.Causes.{Says, for_cause}
 use Rattle.node_command.specs.declared.kit.Member.{Member}
 use Rattle.node_command.specs.Members as node
 use Rattle.node_command.specs.Members.{SetsUp, kit_judging, set_by}
+use Rattle.command_line.specs.Migration.{FoundToMove}
 use Rattle.command_line.specs.Serving.{NodeTraced, OnUnrefused, IsNodeDone, IsNodeWhole}
 use Rattle.command_line.specs.Soaking.{SoakCompletes, TracedSoak}
 use Rattle.command_line.specs.Traced.{Completes, IsComplete, Traced, TracedBy}
 use Rattle.command_line.specs.declared.command.Command.{Command}
-use Rattle.command_line.specs.declared.command.Command.TheVariants.{Replay, Verify, Store, Enroll, Node, Soak}
+use Rattle.command_line.specs.declared.command.Command.TheVariants.{Replay, Verify, Store, Enroll, Migrate, Node, Soak}
 use Rattle.command_line.specs.declared.status.Status.{Status}
 use Rattle.command_line.specs.declared.status.Status.TheVariants as status
 
@@ -77,25 +84,37 @@ pub record TracedWhole (owed : Continuation BadWord) (was now : IoState) (s : St
 abbrev pub TracedEither : Continuation BadWord → IoState → IoState → Status → Type 0
 TracedEither owed was now s = Traced owed was now s ⊎ TracedWhole owed was now s
 
--- A store with this state was found, of the key of some setting.
-pub record IsFound (o : Stored) (old : OfDisk) : Type 0 where
+-- A whole roster was read, and a store of the key that it sets up was found, with this state.
+pub record FoundToEnroll (o : Stored) (was : IoState) (old : OfDisk) : Type 0 where
   pub setting : Setting
+  pub lines : List RosterLine
+  pub between : IoState
+  pub read : IsRoster was between setting lines
   pub seat : Seat
   pub found : HoldsStore (tag_of setting) o seat old.moments
 
--- The roster was cut off, or no store was found: then the trace is told whatever store there is. Else it is told by the next
--- index of the store that was found.
-pub data TracedRoster (was now : IoState) (old : OfDisk) (s : Status) : Type 0 where
-  CutOff : ((next : ℕ) → Traced (enrolled next) was now s) → TracedRoster was now old s
-  Unopened : ((next : ℕ) → TracedWhole (enrolled next) was now s) → TracedRoster was now old s
-  Opened : (o : Stored) → IsFound o old → TracedWhole (enrolled o.next) was now s → TracedRoster was now old s
+-- What a text is owed where the store that is found has this state.
+abbrev pub OwedFor : Type 0
+OwedFor = Stored → Continuation BadWord
+
+-- The text was cut off, or no store was found: then the trace is told whatever store there is. Else it is told by the state of the
+-- store that was found.
+pub data TracedFound (Found : Stored → IoState → OfDisk → Type 0) (owed : OwedFor) (was now : IoState) (old : OfDisk) (s : Status) : Type 0 where
+  CutOff : ((o : Stored) → Traced (owed o) was now s) → TracedFound Found owed was now old s
+  Unopened : ((o : Stored) → TracedWhole (owed o) was now s) → TracedFound Found owed was now old s
+  Opened : (o : Stored) → Found o was old → TracedWhole (owed o) was now s → TracedFound Found owed was now old s
+
+-- A roster's trace is told by the next index alone.
+abbrev pub enrolled_from : OwedFor
+enrolled_from o = enrolled o.next
 
 -- What was written beside the trace of what was taken, for each command.
 abbrev pub TracedAs : Command → IoState → IoState → OfDisk → OfDisk → Status → Type 0
 TracedAs Replay was now old new s = TracedBy IsJudged for_cause replayed was now s
 TracedAs Verify was now old new s = Traced verified was now s
 TracedAs Store was now old new s = TracedEither stored was now s
-TracedAs Enroll was now old new s = TracedRoster was now old s
+TracedAs Enroll was now old new s = TracedFound FoundToEnroll enrolled_from was now old s
+TracedAs Migrate was now old new s = TracedFound FoundToMove moved_on was now old s
 TracedAs (Node stay) was now old new s = NodeTraced was now s
 TracedAs (Soak seed members rounds) was now old new s = TracedSoak seed members rounds was now s
 
@@ -124,6 +143,14 @@ EnrollCompletes was now old new s = IfSome was.left (λ all. (lines : List Roste
     → OnImage old.moments (λ image. StoreOf (tag_of setting) image o) → IsEnough setting o.next (asked_in lines)
     → NoneFailed was now old new → IsComplete s)
 
+-- A store moves where no line of the text is refused, and the file is a store of its key in the group that it leaves, with an index
+-- left.
+abbrev pub MigrateCompletes : IoState → IoState → OfDisk → OfDisk → Status → Type 0
+MigrateCompletes was now old new s = IfSome was.left (λ all. (lines : List SecretLine) (m : Moving) (o : Stored)
+    → lines_from migrate_judging (unread migrate.Start) (seen all) ≡ Ok lines → migrate_setting lines ≡ Some m
+    → OnImage old.moments (λ image. StoreOf (old_tag m) image o) → o.next < count_of m
+    → NoneFailed was now old new → IsComplete s)
+
 -- A node's life comes to its end, its store is found broken or used up, or its port can't be bound, where no line of its text
 -- is refused and nothing failed.
 abbrev pub NodeEndsWell : IoState → IoState → OfDisk → OfDisk → Status → Type 0
@@ -147,5 +174,6 @@ CompletesAs Replay was now old new s = Completes replayed was now s
 CompletesAs Verify was now old new s = Completes verified was now s
 CompletesAs Store was now old new s = StoreCompletes was now old new s
 CompletesAs Enroll was now old new s = EnrollCompletes was now old new s
+CompletesAs Migrate was now old new s = MigrateCompletes was now old new s
 CompletesAs (Node stay) was now old new s = NodeCompletes was now old new s
 CompletesAs (Soak seed members rounds) was now old new s = SoakCompletes seed members rounds was now s

@@ -11,10 +11,11 @@ use Rattle.command_line.specs.Enrolment.{Enrolment}
 use Rattle.command_line.specs.Headline.{Headline}
 use Rattle.command_line.specs.Ends.{NetState}
 use Rattle.command_line.specs.Journals.{NodeUpholds}
+use Rattle.command_line.specs.Migration.{Migration}
 use Rattle.command_line.specs.Soaking.{SoakUpheld}
 use Rattle.command_line.specs.Verification.{Verification}
 use Rattle.command_line.specs.declared.command.Command.{Command}
-use Rattle.command_line.specs.declared.command.Command.TheVariants.{Replay, Verify, Store, Enroll, Node, Soak}
+use Rattle.command_line.specs.declared.command.Command.TheVariants.{Replay, Verify, Store, Enroll, Migrate, Node, Soak}
 use Rattle.command_line.specs.declared.status.Status.{Status}
 use Rattle.command_line.specs.declared.status.Status.TheVariants as status
 
@@ -36,5 +37,6 @@ Upholds Replay was now old new before after s = Headline was now s
 Upholds Verify was now old new before after s = Verification was now s
 Upholds Store was now old new before after s = OnMade s (IsStoreMade was old new)
 Upholds Enroll was now old new before after s = Enrolment was now old new s
+Upholds Migrate was now old new before after s = Migration was now old new s
 Upholds (Node stay) was now old new before after s = NodeUpholds stay was now old new before after s
 Upholds (Soak seed members rounds) was now old new before after s = SoakUpheld seed members rounds was now s

@@ -29,6 +29,8 @@ pub enum Command {
     Store,
     /// `enroll STORE`: signs certificates with the authority's store.
     Enroll,
+    /// `migrate STORE`: moves a store to another group, and writes where it goes on.
+    Migrate,
     /// `node STORE TURNS`: runs a member with its store for some turns, and writes the journal of its life. With the word
     /// `leave` behind them it leaves behind the last turn.
     Node {
@@ -114,6 +116,8 @@ impl Command {
             Some(Command::Store)
         } else if word == "enroll" {
             Some(Command::Enroll)
+        } else if word == "migrate" {
+            Some(Command::Migrate)
         } else {
             None
         }

@@ -7,7 +7,7 @@ ghost use Rattle.command_line.specs.Replayed.{replayed};
 ghost use Rattle.verifier.specs.Answered.{verified};
 ghost use Rattle.command_line.specs.Causes.{for_cause};
 ghost use Rattle.command_line.specs.Commands.{FitsCommand, command_of, is_over_link, is_over_store, is_over_text, store_in, takes_link, takes_store, takes_text};
-ghost use Rattle.command_line.specs.Ends.{Counts, EndsBy, Ends, EnrollEnds, FaultsAs, NodeEnds, StoreEnds, net_state};
+ghost use Rattle.command_line.specs.Ends.{Counts, EndsBy, Ends, EnrollEnds, FaultsAs, MigrateEnds, NodeEnds, StoreEnds, net_state};
 ghost use Rattle.command_line.specs.EndsAs.{EndsAs};
 ghost use Rattle.command_line.specs.TracedAs.{CompletesAs, TracedAs};
 ghost use Rattle.command_line.specs.Upheld.{Upholds};
@@ -17,7 +17,7 @@ use crate::ending::conclude;
 use crate::replay;
 use crate::soak::run_soak;
 use crate::status::Status;
-use authority::{enroll, make_store};
+use authority::{enroll, make_store, migrate_store};
 use node_command::{Stay, run_node};
 use ports::{Clock, Disk, Link, Sink, Source};
 use std::alloc::Global;
@@ -85,6 +85,25 @@ fn run_enroll<S: Source, O: Sink, D: Disk>(
     conclude(out, Status::from(ended))
 }
 
+/// Moves a store to another group, and answers how the run ended.
+fn run_migrate<S: Source, O: Sink, D: Disk>(
+    alloc: Global,
+    name: &str,
+    input: &mut S,
+    out: &mut O,
+    disk: &mut D,
+) -> Status
+    requires source { (S.state input.old).is_open ≡ true }
+    requires sink { (O.state out.old).is_open ≡ true }
+    ensures ends { MigrateEnds name.now
+        (io (S.state input.old) (O.state out.old))
+        (io (S.state input.new) (O.state out.new))
+        (D.state disk.old) (D.state disk.new) result }
+{
+    let ended = migrate_store(alloc, name, input, out, disk);
+    conclude(out, Status::from(ended))
+}
+
 /// Runs a member for so many turns, behind which it may leave, and answers how the run ended.
 fn run_member<S: Source, O: Sink, D: Disk, L: Link, C: Clock>(
     alloc: Global,
@@ -139,6 +158,7 @@ fn run_command<S: Source, O: Sink, D: Disk, L: Link, C: Clock>(
         Command::Verify => run_verify(alloc, input, out),
         Command::Store => run_store(alloc, name, input, out, disk),
         Command::Enroll => run_enroll(alloc, name, input, out, disk),
+        Command::Migrate => run_migrate(alloc, name, input, out, disk),
         Command::Node { stay } => { run_member(alloc, name, stay, input, out, disk, link, clock) }
         Command::Soak {
             seed,
@@ -191,7 +211,9 @@ pub fn run<S: Source, O: Sink, D: Disk, L: Link, C: Clock>(
 
     // What the trace that was written rests on: in a replay each removal on a note by which the member left, or on an
     // accusation that stood unanswered for the timeout; to a text that asks about a signature nothing is answered before
-    // its end. What is signed of certificates spends indexes from the next one found on, each once, whatever ends the run.
+    // its end. What is signed of certificates spends indexes from the next one found on, each once, whatever ends the run. A
+    // store is left as it was found, or as the store of the group to which it moves; and as that where a byte was written of
+    // the line that says so.
     ensures upholds { IfSome (command_of (map string_bytes words.now)) (λ command. Upholds command
         (io (S.state input.old) (O.state out.old))
         (io (S.state input.new) (O.state out.new))

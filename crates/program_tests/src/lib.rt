@@ -7,6 +7,8 @@ mod first_lines;
 #[cfg(test)]
 mod members;
 #[cfg(test)]
+mod moving;
+#[cfg(test)]
 mod outside;
 #[cfg(test)]
 mod refusing;

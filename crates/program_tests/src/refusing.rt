@@ -74,10 +74,11 @@ fn refuse_kinds(rt: &impl Abort, alloc: Global, words: &str, kind: &str) -> Resu
 }
 
 /// The words of each command that reads a text of operators, and the kind of that text.
-const KINDS: [(&str, &str); 3] = [
+const KINDS: [(&str, &str); 4] = [
     ("store a.st", "secret"),
     ("enroll a.st", "roster"),
     ("node n.st 2", "kit"),
+    ("migrate a.st", "migrate"),
 ];
 
 #[test]
@@ -85,7 +86,9 @@ fn what_each_text_begins_with(rt: HostRuntime) -> Result<(), Fail> {
     for (words, kind) in KINDS {
         refuse(&rt, rt.alloc(), words, "", &NO_HEADER)?;
         refuse_groups(&rt, rt.alloc(), words, kind)?;
-        refuse_kinds(&rt, rt.alloc(), words, kind)?;
+        if kind != "migrate" {
+            refuse_kinds(&rt, rt.alloc(), words, kind)?;
+        }
     }
     Ok(())
 }
@@ -217,6 +220,84 @@ const ASKED: [Refused; 13] = [
     ("cert 1 20001 #00\n", "bad 5 limit\n"),
     ("cert 1 20001 #\ncert 1 20002 #\n", "bad 6 limit\n"),
     ("cert 1 20001 #\nend\nx", "bad 7 after-end\n"),
+];
+
+/// What stands in the place of a second group.
+fn refuse_second_groups(rt: &impl Abort, alloc: Global) -> Result<(), Fail> {
+    let front = format!(in alloc; "fireflies 1 migrate\n{LETTERS}")?;
+    refuse(rt, alloc, "migrate a.st", front.as_str(), &NO_SECOND_GROUP)
+}
+
+/// What stands behind two groups, and behind the secret.
+fn refuse_moves(rt: &impl Abort, alloc: Global) -> Result<(), Fail> {
+    let front = format!(in alloc; "fireflies 1 migrate\n{LETTERS}{GROUP}")?;
+    refuse(rt, alloc, "migrate a.st", front.as_str(), &BEHIND_GROUPS)?;
+    let whole = format!(in alloc; "{front}kinds 2 5\n{SECRET}")?;
+    refuse(rt, alloc, "migrate a.st", whole.as_str(), &BEHIND_MOVED)
+}
+
+#[test]
+fn the_text_that_moves_a_store(rt: HostRuntime) -> Result<(), Fail> {
+    refuse_second_groups(&rt, rt.alloc())?;
+    refuse_moves(&rt, rt.alloc())
+}
+
+/// A group whose tag has letters.
+const LETTERS: &str = "group 1 4 1 2 abcdefabcdefabcdefabcdefabcdefab\n";
+
+/// The last two of these have the tolerance or the tag of the first group, and not both: they are good.
+const NO_SECOND_GROUP: [Refused; 11] = [
+    ("", "bad 3 end\n"),
+    ("kinds 2 5\n", "bad 3 order\n"),
+    ("end\n", "bad 3 order\n"),
+    ("cert 1 20001 #\n", "bad 3 word\n"),
+    (
+        "group 1 4 1 2 abcdefabcdefabcdefabcdefabcdefab\n",
+        "bad 3 limit\n",
+    ),
+    (
+        "group 1 9 8 7 ABCDEFABCDEFABCDEFABCDEFABCDEFAB\n",
+        "bad 3 limit\n",
+    ),
+    (
+        "group 1 4 1 2 abcdefabcdefabcdefabcdefabcdefag\n",
+        "bad 3 hex\n",
+    ),
+    (
+        "group 32 4 1 2 abcdefabcdefabcdefabcdefabcdefab\n",
+        "bad 3 limit\n",
+    ),
+    (
+        "group 1 4 1 x abcdefabcdefabcdefabcdefabcdefab\n",
+        "bad 3 number\n",
+    ),
+    (
+        "group 2 4 1 2 abcdefabcdefabcdefabcdefabcdefab\n",
+        "bad 4 end\n",
+    ),
+    (
+        "group 1 4 1 2 abcdefabcdefabcdefabcdefabcdefac\n",
+        "bad 4 end\n",
+    ),
+];
+
+const BEHIND_GROUPS: [Refused; 6] = [
+    (
+        "group 2 4 1 2 00000000000000000000000000000000\n",
+        "bad 4 order\n",
+    ),
+    ("secret 00\n", "bad 4 order\n"),
+    ("kinds 2\n", "bad 4 count\n"),
+    ("kinds 3 5\n", "bad 4 limit\n"),
+    ("kinds 2 5\n", "bad 5 end\n"),
+    ("kinds 2 5\nsecret 00\n", "bad 5 limit\n"),
+];
+
+const BEHIND_MOVED: [Refused; 4] = [
+    ("", "bad 6 end\n"),
+    ("cert 1 20001 #\n", "bad 6 word\n"),
+    ("end", "bad 6 line-feed\n"),
+    ("end\nx", "bad 7 after-end\n"),
 ];
 
 /// The text of a member up to its secret, of which a key is made at once.

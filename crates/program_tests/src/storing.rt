@@ -12,21 +12,24 @@ use std::alloc::Global;
 use std::process::Abort;
 use std::test::Fail;
 
-const GROUP: &str = "group 1 4 1 2 00000000000000000000000000000000\nkinds 2 5\n";
+/// The group in which the stores are made.
+pub const GROUP: &str = "group 1 4 1 2 00000000000000000000000000000000\n";
 
-const SECRET: &str = "secret 5a5a5a5a5a5a5a5a5a5a5a5a5a5a5a5a5a5a5a5a5a5a5a5a5a5a5a5a5a5a5a5a\n";
+/// What stands behind the groups of a text.
+pub const OWNER: &str = "kinds 2 5\n\
+    secret 5a5a5a5a5a5a5a5a5a5a5a5a5a5a5a5a5a5a5a5a5a5a5a5a5a5a5a5a5a5a5a5a\n";
 
 const KEY: &str =
     "0000000500000004a1a1a1a1a1a1a1a1a1a1a1a1a1a1a1a1b2b2b2b2b2b2b2b2b2b2b2b2b2b2b2b2b2b2b2b2b2b2b2b2b2b2b2b2b2b2b2b2";
 
 /// The text of the secret.
 fn secret(alloc: Global) -> Result<String, Fail> {
-    Ok(format!(in alloc; "fireflies 1 secret\n{GROUP}{SECRET}end\n")?)
+    Ok(format!(in alloc; "fireflies 1 secret\n{GROUP}{OWNER}end\n")?)
 }
 
-/// A roster that asks for so many certificates.
-fn roster(alloc: Global, count: u16) -> Result<String, Fail> {
-    let mut text = format!(in alloc; "fireflies 1 roster\n{GROUP}{SECRET}")?;
+/// A roster of the group that asks for so many certificates.
+fn roster(alloc: Global, group: &str, count: u16) -> Result<String, Fail> {
+    let mut text = format!(in alloc; "fireflies 1 roster\n{group}{OWNER}")?;
     for member in 0..count {
         let line = format!(in alloc; "cert {member} 20000 {KEY}\n")?;
         text.push_str(line.as_str())?;
@@ -46,19 +49,29 @@ fn stands_at(text: &[u8], place: usize, part: &[u8]) -> bool {
 }
 
 /// Makes the store of the key in the disk's file.
-fn make_store(alloc: Global, disk: &mut MemoryDisk) -> Result<Run, Fail> {
+pub fn make_store(alloc: Global, disk: &mut MemoryDisk) -> Result<Run, Fail> {
     let text = secret(alloc)?;
     run_over(alloc, &["store", "a.st"], text.as_str(), disk)
 }
 
-/// Asks the store in the disk's file for so many certificates.
-fn enroll(alloc: Global, count: u16, disk: &mut MemoryDisk) -> Result<Run, Fail> {
-    let text = roster(alloc, count)?;
+/// Asks the store in the disk's file for so many certificates in the group.
+pub fn enroll_in(
+    alloc: Global,
+    group: &str,
+    count: u16,
+    disk: &mut MemoryDisk,
+) -> Result<Run, Fail> {
+    let text = roster(alloc, group, count)?;
     run_over(alloc, &["enroll", "a.st"], text.as_str(), disk)
 }
 
+/// Asks it for so many in the group in which it was made.
+fn enroll(alloc: Global, count: u16, disk: &mut MemoryDisk) -> Result<Run, Fail> {
+    enroll_in(alloc, GROUP, count, disk)
+}
+
 /// What a line begins with that certifies this member with this index.
-fn signed_line(alloc: Global, member: u8, index: u8) -> Result<String, Fail> {
+pub fn signed_line(alloc: Global, member: u8, index: u8) -> Result<String, Fail> {
     Ok(format!(in alloc; "cert {member} 20000 {KEY} 0000000{index}")?)
 }
 
@@ -178,12 +191,12 @@ fn a_disk_that_fails_at_each_call_of_a_making(rt: HostRuntime) -> Result<(), Fai
     Ok(())
 }
 
-/// The mark of the authority's store.
-fn tag(alloc: Global) -> Result<[u8; 32], Fail> {
+/// The mark of the authority's store in a group of this tolerance.
+pub fn tag(alloc: Global, t: u8) -> Result<[u8; 32], Fail> {
     let key = make_key(alloc, OtsKind::W2, TreeKind::H5, &[0x5a; 32])?.public();
     let group = Group {
         tag: [0; 16],
-        t: 1,
+        t,
         timeout: 4,
         period: 1,
         misses: 2,
@@ -241,7 +254,7 @@ fn enroll_failing(
 
 #[test]
 fn a_disk_that_fails_as_an_authoritys_store_is_opened(rt: HostRuntime) -> Result<(), Fail> {
-    let tag = tag(rt.alloc())?;
+    let tag = tag(rt.alloc(), 1)?;
     for call in 4..9u64 {
         enroll_failing(&rt, rt.alloc(), &tag, call, 0, None)?;
     }
@@ -251,7 +264,7 @@ fn a_disk_that_fails_as_an_authoritys_store_is_opened(rt: HostRuntime) -> Result
 /// Where the index may be stored, it is not used again.
 #[test]
 fn a_disk_that_fails_as_a_certificate_is_signed(rt: HostRuntime) -> Result<(), Fail> {
-    let tag = tag(rt.alloc())?;
+    let tag = tag(rt.alloc(), 1)?;
     for (call, next) in [(9u64, None), (10, None), (11, Some(0u8)), (12, Some(1))] {
         enroll_failing(&rt, rt.alloc(), &tag, call, 0, next)?;
     }
@@ -260,7 +273,7 @@ fn a_disk_that_fails_as_a_certificate_is_signed(rt: HostRuntime) -> Result<(), F
 
 #[test]
 fn a_disk_that_fails_as_the_next_is_signed(rt: HostRuntime) -> Result<(), Fail> {
-    let tag = tag(rt.alloc())?;
+    let tag = tag(rt.alloc(), 1)?;
     for (call, next) in [(13u64, None), (14, None), (15, None), (16, Some(2u8))] {
         enroll_failing(&rt, rt.alloc(), &tag, call, 1, next)?;
     }
@@ -282,7 +295,7 @@ fn name_nothing(
     words: &[&str],
     disk: &mut MemoryDisk,
 ) -> Result<(), Fail> {
-    let got = run_over(alloc, words, SECRET, disk)?;
+    let got = run_over(alloc, words, OWNER, disk)?;
     compare(rt, &got, 2, b"");
     Ok(())
 }
@@ -290,7 +303,12 @@ fn name_nothing(
 #[test]
 fn words_that_name_no_command(rt: HostRuntime) -> Result<(), Fail> {
     let mut disk = disk(rt.alloc(), &[])?;
-    for words in [["store", ""], ["enrol", "a.st"], ["replay", "x"]] {
+    for words in [
+        ["store", ""],
+        ["migrate", ""],
+        ["enrol", "a.st"],
+        ["replay", "x"],
+    ] {
         name_nothing(&rt, rt.alloc(), &words, &mut disk)?;
     }
     Ok(())

@@ -1,6 +1,9 @@
 use Rattle.command_line.proofs.UpheldLemmas.{all-of, faults-of, on-command}
 use Rattle.command_line.proofs.running.run.Goals as goal
 
+pub returns-clause-untouched : goal.returns-clause-untouched
+returns-clause-untouched g c = λ usage. absurd ((all-of c.in-Some.command c.store_in-name.result.now _ _ _ _ _ _ c.run_command.result c.run_command.ensures.ends).command usage)
+
 pub returns-clause-traced : goal.returns-clause-traced
 returns-clause-traced g c =
     on-command _ _ c.of.result c.in-Some.command c.of.ensures.command c.in-Some.is

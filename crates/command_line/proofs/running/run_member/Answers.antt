@@ -14,6 +14,6 @@ returns g c = record {
       (g.D.Disk.state c.run_node-ended.new.disk)
       (net_state (g.L.Link.state c.args.link.now) (g.C.Clock.state c.args.clock.now))
       (net_state (g.L.Link.state c.run_node-ended.new.link) (g.C.Clock.state c.run_node-ended.new.clock))
-      c.run_node-ended.result c.from.result c.conclude.result c.run_node-ended.ensures.takes c.run_node-ended.ensures.cause c.run_node-ended.ensures.opened c.run_node-ended.ensures.no_disk_fault c.run_node-ended.ensures.store_fault c.run_node-ended.ensures.link_fault
+      c.run_node-ended.result c.from.result c.conclude.result c.run_node-ended.ensures.takes c.run_node-ended.ensures.cause c.run_node-ended.ensures.no_disk_fault c.run_node-ended.ensures.store_fault c.run_node-ended.ensures.link_fault
       c.run_node-ended.ensures.runs c.run_node-ended.ensures.rests c.run_node-ended.ensures.spends c.from.ensures (c.conclude.ensures (g.S.Source.state c.run_node-ended.new.input));
 }
