@@ -229,18 +229,12 @@ pub fn is_wide(bits: Bits) -> bool
     bits > Bits::from(u32::MAX)
 }
 
-/// How many of the first rings the mask enables.
-fn enabled_below(mask: Mask, rings: u8) -> u8
-    requires { rings < MASK_BITS }
-    ensures { result ≡ length (enabled rings mask.0) }
+/// How many of the first rings the mask enables, which enables no other.
+fn enabled_below(mask: Mask, _rings: u8) -> u32
+    requires { mask.0 < 2 ^ _rings }
+    ensures { result ≡ length (enabled _rings mask.0) }
 {
-    let mut count = 0u8;
-    for ring in 0..rings {
-        if mask.enables(RingNo(ring)) {
-            count += 1;
-        }
-    }
-    count
+    mask.0.count_ones()
 }
 
 /// Whether a member may be monitored under this mask in a group of tolerance `t`: no ring at or above 2t+1 is enabled,
@@ -250,7 +244,7 @@ pub fn good_mask(t: u8, mask: Mask) -> bool
     ensures { result ≡ is_good t mask.0 }
 {
     let rings = 2 * t + 1;
-    mask.0 < (1 as Bits) << rings && enabled_below(mask, rings) > t
+    mask.0 < (1 as Bits) << rings && enabled_below(mask, rings) > u32::from(t)
 }
 
 /// Whether a note may carry this mask in a group of tolerance `t`: a good one, or 0, by which its member leaves.
