@@ -271,6 +271,11 @@ Ends-no_more rings f g by kept kept' fell fell' same none h = λ entries ended b
       told = after.told ∙ ap (map (λ p. p.0)) (filter_agree_on (λ p. ended p || f p) (λ p. ended p || g p) entries each);
     }
 
+-- what one test picks beside none
+pub alone : (f : Entry → Bool) (xs : List Entry) → AllByRecursion (λ p. f p ≡ (false || f p)) xs
+alone f [] = tt
+alone f (x ∷ xs) = (refl, alone f xs)
+
 nobody : (xs : List Entry) → list_any (λ p. false) xs ≡ false
 nobody [] = refl
 nobody (x ∷ xs) = nobody xs

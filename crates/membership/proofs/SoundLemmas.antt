@@ -6,7 +6,9 @@ use Rattle.std.specs.Cmp.{nat_cmp_total}
 use Rattle.std.specs.FinMap.{get, insert, empty, get-insert, get-empty}
 use Rattle.std.specs.declared.cmp.Ordering.{Ordering}
 use Rattle.std.specs.declared.cmp.Ordering.TheVariants.{Less, Equal, Greater}
-use Rattle.std.specs.List.{filter}
+use Rattle.std.specs.List.{All, filter}
+use Rattle.std.specs.Option.{unwrap_or}
+use Rattle.std.proofs.lemmas.List.Elements.{All-map}
 use Rattle.std.proofs.lemmas.Bool.{eqb-true, eqb-false, false≢true}
 use Rattle.std.proofs.lemmas.Bool.Decides.{nat_tests}
 use Rattle.ff_ids.specs.declared.TheConstants.{MEMBERS}
@@ -218,6 +220,13 @@ absent_before l view n sound fault e =
 pub present_before : (l : Life) (view : Joined) (n : NoteBody) → IsSound l.group l.places l.notes l.expired view → note_fault_in l n ≡ None → effect_in l n ≡ Leaves → is_joined view.members n.member ≡ true
 present_before l view n sound fault e =
     on_rings l view n sound fault ∙ (was_in (is_live_at l.notes l.expired n.member) (is_live (expired_at l.expired n.member) (Some n)) e).0
+
+-- who is on the rings has the places that are kept
+pub own_places : (group : Group) (places : ByNumber (List (List ℕ))) (notes : ByNumber NoteBody) (expired : ByNumber ℕ) (view : Joined) (m : ℕ) (own : List (List ℕ)) → IsSound group places notes expired view → get places m ≡ Some own → All (λ x. x.number ≡ m → x.places ≡ own) view.members
+own_places group places notes expired view m own sound there =
+    let P : Member → Type 0 = λ x. x.number ≡ m → x.places ≡ own in
+    subst (All P) (sym sound.viewed)
+    (All-map P (member_at places) (filter (is_live_at notes expired) all_numbers) (λ k d lt same. ap (λ (n : ℕ). unwrap_or (get places n) []) same ∙ ap (λ (o : Option (List (List ℕ))). unwrap_or o []) there))
 
 -- nobody is on the rings where all notes are gone
 pub IsSound-cleared : (group : Group) (places : ByNumber (List (List ℕ))) (notes : ByNumber NoteBody) (expired : ByNumber ℕ) (view view' : Joined) → IsSound group places notes expired view → view' ≡ record view { members = [] } → IsSound group places empty empty view'

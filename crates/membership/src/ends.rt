@@ -10,6 +10,7 @@ ghost use Rattle.membership.specs.declared.report.TheConstants.{ACCUSATIONS};
 ghost use Rattle.membership.specs.Ends.{AreTheirs, Entry, Ends, HasEnded, IsAgain, next_of, answered_on, is_ended_by, is_on, is_named, is_of, is_of_any, with_fallen};
 ghost use Rattle.membership.specs.declared.kept.NoteEffect.TheVariants as effects;
 ghost use Rattle.removal_timer.specs.Kept.{is_at, entry_at, IsInOrder};
+ghost use Rattle.removal_timer.specs.Tally.{is_against};
 
 use crate::Membership;
 use crate::kept::{NoteEffect, successors, successors_of_last};
@@ -149,6 +150,21 @@ impl Membership {
         }
     }
 
+    /// Ends what is kept against the member. Where nothing is, no ring is looked at.
+    fn end_against(&mut self, member: MemberId, out: &mut Changes)
+        requires { length out.old.fell + length self.old.kept ≤ ACCUSATIONS }
+        ensures ends { Ends (ring_count self.old.group.t) (is_against member)
+            self.old.kept out.old.fell self.new.kept out.new.fell }
+        ensures rest { self.new ≡ record self.old { kept = self.new.kept } }
+        ensures report { out.new ≡ record out.old { fell = out.new.fell } }
+        ensures room { length out.new.fell + length self.new.kept ≤ ACCUSATIONS }
+        ensures few { ring_count self.old.group.t ≤ MAX_RINGS }
+    {
+        if self.timers.is_accused(member) {
+            self.end_named(&[Some(member); MAX_RINGS as usize], out);
+        }
+    }
+
     /// Ends what is kept against the member, and against its successors: where it accuses nobody the rings aren't looked at,
     /// since who is accused is accused by its monitor.
     fn end_of(&mut self, member: MemberId, out: &mut Changes)
@@ -159,7 +175,7 @@ impl Membership {
         ensures report { out.new ≡ record out.old { fell = out.new.fell } }
         ensures room { length out.new.fell + length self.new.kept ≤ ACCUSATIONS }
     {
-        self.end_named(&[Some(member); MAX_RINGS as usize], out);
+        self.end_against(member, out);
         if self.timers.is_accuser(member) {
             let next = self.next_after(member);
             self.end_named(&next, out);

@@ -81,7 +81,8 @@ impl Membership {
         let leaves = takes_out(&self.notes, &self.expired, acc);
         raise(&mut self.expired, acc);
         if leaves {
-            self.rings.leave(acc.accused);
+            let places = self.places.get(acc.accused).unwrap();
+            self.rings.leave(acc.accused, places);
         }
         leaves
     }

@@ -400,7 +400,10 @@ impl Membership {
                 let places = self.places.get(note.member).unwrap();
                 self.rings.join(note.member, places);
             }
-            NoteEffect::Leaves => self.rings.leave(note.member),
+            NoteEffect::Leaves => {
+                let places = self.places.get(note.member).unwrap();
+                self.rings.leave(note.member, places);
+            }
             NoteEffect::Stays => {}
         }
         effect

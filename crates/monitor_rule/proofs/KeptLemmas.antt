@@ -15,8 +15,9 @@ use Rattle.monitor_rule.specs.Joined.{Joined, is_joined, with_member, without_me
 use Rattle.monitor_rule.specs.Listed.{is_listed, with_number, without_number}
 use Rattle.monitor_rule.specs.Sorted.{RingOrder, places_at, members_from, numbers_in, emptied, hint_on, AreFound, IsRow, IsBetween, IsKept}
 use Rattle.monitor_rule.proofs.NumberLemmas.{numbers_with, numbers_without, is_listed-joined}
-use Rattle.monitor_rule.proofs.SlotLemmas.{Slots, length-members_below, members_from-none, members_from-filled, members_from-emptied, is_joined-slot}
-use Rattle.monitor_rule.proofs.RowLemmas.{IsRow-joined, IsRow-left, IsRow-empty}
+use Rattle.monitor_rule.proofs.SlotLemmas.{Slots, length-members_below, members_from-none, members_from-filled, members_from-emptied, is_joined-slot, Contains-member}
+use Rattle.ring_order.specs.Ranks.{Ranked}
+use Rattle.monitor_rule.proofs.RowLemmas.{AreRanks, IsRow-joined, IsRow-left, IsRow-empty}
 
 -- what is written over all of a list
 pub written : {X : Type 0} (n : ℕ) (xs ys : List X) → length ys ≡ length xs → n ≡ length xs → take n (ys ++ drop (length ys) xs) ≡ ys
@@ -35,30 +36,34 @@ numbers-few slots numbers m same free number long =
 
 -- ---- one row
 
-pub joined_row : (slots : Slots) (ring : ℕ) (order hints after : List ℕ) (told : Bool) (row : RingOrder) (places : List (List ℕ)) (place m capacity : ℕ) (done : Bool) → record { ring = ring; order = order; hints = hints; told = told } ≡ row → IsRow slots row → IsBetween slots row (key_at row.ring places m) place place → places_at slots m ≡ None → m < MEMBERS → length slots ≡ MEMBERS → row.ring < length places → after ≡ cond done (insert order place m) order → MEMBERS ≤ capacity → (length order < capacity → done ≡ true) → length hints ≡ MEMBERS → IsRow (set slots m (Some places)) (record { ring = ring; order = after; hints = set hints m (hint_on ring places); told = told && nat_lt (hint_on ring places) (2 ^ 32 - 1) })
-joined_row slots ring order hints after told row places place m capacity done view h between free number long placed is room succeeds all =
+pub joined_row : (slots : Slots) (ring : ℕ) (order after : List ℕ) (ranks reached : List Ranked) (told : Bool) (row : RingOrder) (places : List (List ℕ)) (place m capacity : ℕ) (done : Bool) → record { ring = ring; order = order; ranks = ranks; told = told } ≡ row → IsRow slots row → IsBetween slots row (key_at row.ring places m) place place → places_at slots m ≡ None → m < MEMBERS → length slots ≡ MEMBERS → row.ring < length places → after ≡ cond done (insert order place m) order → MEMBERS ≤ capacity → (length order < capacity → done ≡ true)
+    → m < length reached → ((n : ℕ) (d : Ranked) → n < length ranks → get_or reached n d ≡ get_or ranks n d)
+    → IsRow (set slots m (Some places)) (record { ring = ring; order = after; ranks = set reached m (record { hint = hint_on ring places; number = m }); told = told && nat_lt (hint_on ring places) (2 ^ 32 - 1) })
+joined_row slots ring order after ranks reached told row places place m capacity done view h between free number long placed is room succeeds in_reached kept =
     let same : length order ≡ length row.order = ap (λ (r : RingOrder). length r.order) view in
     let in' : m < length slots = omega arith in
     let below = length-members_below 0 slots m free in' in
     let yes : done ≡ true = succeeds (omega (arith, h.count, below)) in
     let put : after ≡ insert order place m = is ∙ ap (λ b. cond b (insert order place m) order) yes in
-    let in_hints : m < length row.hints = omega (arith, number, all, ap (λ (r : RingOrder). length r.hints) view) in
-    let joined = IsRow-joined slots row places place m h between free in' placed in_hints in
+    let ranks_same : ranks ≡ row.ranks = ap (λ (r : RingOrder). r.ranks) view in
+    let own : ℕ → Ranked = λ ring. record { hint = hint_on ring places; number = m } in
+    let are : AreRanks row places m (set reached m (own row.ring)) = record {
+      own = λ d. get_or-set_same reached m (own row.ring) d in_reached;
+      others = λ n d apart lt. get_or-set_other reached m n (own row.ring) d apart ∙ kept n d (omega (arith, lt, ap length ranks_same)) ∙ ap (λ (xs : List Ranked). get_or xs n d) ranks_same;
+    } in
+    let joined = IsRow-joined slots row places (set reached m (own row.ring)) place m are h between free in' placed in
     let P : RingOrder → Type 0 = λ r. IsRow (set slots m (Some places)) r in
-    subst P (ap (λ (r : RingOrder). record r { order = insert r.order place m; hints = set r.hints m (hint_on r.ring places); told = r.told && nat_lt (hint_on r.ring places) (2 ^ 32 - 1) }) (sym view) ∙ ap (λ (o : List ℕ). record { ring = ring; order = o; hints = set hints m (hint_on ring places); told = told && nat_lt (hint_on ring places) (2 ^ 32 - 1) }) (sym put)) joined
+    subst P (ap (λ (r : RingOrder). record r { order = insert r.order place m; ranks = set reached m (own r.ring); told = r.told && nat_lt (hint_on r.ring places) (2 ^ 32 - 1) }) (sym view) ∙ ap (λ (o : List ℕ). record { ring = ring; order = o; ranks = set reached m (own ring); told = told && nat_lt (hint_on ring places) (2 ^ 32 - 1) }) (sym put)) joined
 
-pub left_row : (slots : Slots) (ring : ℕ) (order hints after : List ℕ) (told : Bool) (row : RingOrder) (places : List (List ℕ)) (place m : ℕ) → record { ring = ring; order = order; hints = hints; told = told } ≡ row → IsRow slots row → IsBetween slots row (key_at row.ring places m) place place → places_at slots m ≡ Some places → m < MEMBERS → length slots ≡ MEMBERS → after ≡ remove order place → IsRow (set slots m None) (record { ring = ring; order = after; hints = hints; told = told })
-left_row slots ring order hints after told row places place m view h between there number long is =
+pub left_row : (slots : Slots) (ring : ℕ) (order after : List ℕ) (ranks : List Ranked) (told : Bool) (row : RingOrder) (places : List (List ℕ)) (place m : ℕ) → record { ring = ring; order = order; ranks = ranks; told = told } ≡ row → IsRow slots row → IsBetween slots row (key_at row.ring places m) place place → places_at slots m ≡ Some places → m < MEMBERS → length slots ≡ MEMBERS → after ≡ remove order place → IsRow (set slots m None) (record { ring = ring; order = after; ranks = ranks; told = told })
+left_row slots ring order after ranks told row places place m view h between there number long is =
     let in' : m < length slots = omega arith in
     let left = (IsRow-left slots row places place m h between there in').1 in
     let P : RingOrder → Type 0 = λ r. IsRow (set slots m None) r in
-    subst P (ap (λ (r : RingOrder). record r { order = remove r.order place }) (sym view) ∙ ap (λ (o : List ℕ). record { ring = ring; order = o; hints = hints; told = told }) (sym is)) left
+    subst P (ap (λ (r : RingOrder). record r { order = remove r.order place }) (sym view) ∙ ap (λ (o : List ℕ). record { ring = ring; order = o; ranks = ranks; told = told }) (sym is)) left
 
-pub left_within : (slots : Slots) (ring : ℕ) (order hints : List ℕ) (told : Bool) (row : RingOrder) (places : List (List ℕ)) (place m : ℕ) → record { ring = ring; order = order; hints = hints; told = told } ≡ row → IsRow slots row → IsBetween slots row (key_at row.ring places m) place place → places_at slots m ≡ Some places → m < MEMBERS → length slots ≡ MEMBERS → place < length order
-left_within slots ring order hints told row places place m view h between there number long =
-    let within = (IsRow-left slots row places place m h between there (omega arith)).0 in
-    let same : length order ≡ length row.order = ap (λ (r : RingOrder). length r.order) view in
-    omega arith
+pub left_within : (slots : Slots) (row : RingOrder) (places : List (List ℕ)) (place m : ℕ) → IsRow slots row → IsBetween slots row (key_at row.ring places m) place place → places_at slots m ≡ Some places → m < MEMBERS → length slots ≡ MEMBERS → place < length row.order
+left_within slots row places place m h between there number long = (IsRow-left slots row places place m h between there (omega arith)).0
 
 -- ---- a loop over the rows
 
@@ -198,6 +203,24 @@ free_slot slots rings m joined view absent = none_from (places_at slots m) (slot
 pub filled_slot : (slots : Slots) (rings m : ℕ) (joined : Joined) → record { rings = rings; members = members_from 0 slots } ≡ joined → is_joined joined.members m ≡ true → is_some (places_at slots m) ≡ true
 filled_slot slots rings m joined view present = slot_of slots rings m joined view ∙ present
 
+some_slot : (o : Option (List (List ℕ))) → is_some o ≡ true → (places : List (List ℕ)) × (o ≡ Some places)
+some_slot None h = cc
+some_slot (Some places) h = (places, refl)
+
+own_here : (slots : Slots) (m : ℕ) (places own : List (List ℕ)) → places_at slots m ≡ Some own → All (λ x. x.number ≡ m → x.places ≡ places) (members_from 0 slots) → own ≡ places
+own_here slots m places own there each =
+    let found = Contains-member 0 slots m own there in
+    let member = get_or (members_from 0 slots) found.0 (record { number = 0 + m; places = own }) in
+    let number : member.number ≡ m = ap (λ (x : Member). x.number) found.2 ∙ omega arith in
+    sym (ap (λ (x : Member). x.places) found.2) ∙ each found.0 (record { number = 0 + m; places = own }) found.1 number
+
+-- the places of a member that has joined are those in its slot
+pub own_places : (slots : Slots) (rings m : ℕ) (joined : Joined) (places : List (List ℕ)) → record { rings = rings; members = members_from 0 slots } ≡ joined → is_joined joined.members m ≡ true → All (λ x. x.number ≡ m → x.places ≡ places) joined.members → places_at slots m ≡ Some places
+own_places slots rings m joined places view present each =
+    let there = some_slot (places_at slots m) (filled_slot slots rings m joined view present) in
+    let here : All (λ x. x.number ≡ m → x.places ≡ places) (members_from 0 slots) = subst (λ (j : Joined). All (λ x. x.number ≡ m → x.places ≡ places) j.members) (sym view) each in
+    there.1 ∙ ap Some (own_here slots m places there.0 there.1 here)
+
 pub record Rekept (slots : Slots) (rows : List RingOrder) (numbers : List ℕ) (joined : Joined) : Type 0 where
   pub kept : IsKept slots rows
   pub numbers_same : numbers ≡ numbers_in slots
@@ -217,10 +240,6 @@ Rekept-joined slots rows after numbers joined m places h absent number placed in
           ∙ ap (λ ms. record { rings = length rows; members = ms }) (members_from-filled 0 slots m places free (omega (arith, h.kept.long)) ∙ ap (λ n. with_member (record { number = n; places = places }) (members_from 0 slots)) zero_more)
           ∙ ap (λ (j : Joined). record j { members = with_member (record { number = m; places = places }) j.members }) h.view;
     }
-
-some_slot : (o : Option (List (List ℕ))) → is_some o ≡ true → (places : List (List ℕ)) × (o ≡ Some places)
-some_slot None h = cc
-some_slot (Some places) h = (places, refl)
 
 pub Rekept-left : (slots : Slots) (rows after : List RingOrder) (numbers : List ℕ) (joined : Joined) (m : ℕ) → Rekept slots rows numbers joined → is_joined joined.members m ≡ true → m < MEMBERS → All (IsRow (set slots m None)) after → map (λ r. r.ring) after ≡ map (λ r. r.ring) rows → Rekept (set slots m None) after (without_number m numbers) (record joined { members = without_member m joined.members })
 Rekept-left slots rows after numbers joined m h present number in_order same =

@@ -5,10 +5,11 @@ use Rattle.std.specs.Option.{unwrap_or, IfSome, IsSomeAnd}
 use Rattle.std.specs.declared.cmp.Ordering.{Ordering}
 use Rattle.std.specs.declared.cmp.Ordering.TheVariants.{Less, Equal, Greater}
 use Rattle.std.proofs.lemmas.Bool.{cases_lt, true≢false}
-use Rattle.std.proofs.lemmas.List.{get_or_default}
+use Rattle.std.proofs.lemmas.List.{get_or_default, get_or_past}
 use Rattle.std.proofs.lemmas.Cmp.{tied_itself}
 use Rattle.ff_ids.specs.Rings.{Key, key_cmp, is_below}
 use Rattle.ff_ids.specs.Views.{key_at}
+use Rattle.ring_order.specs.Ranks.{Ranked}
 use Rattle.ring_order.proofs.KeyOrder.{key_cmp_total}
 use Rattle.monitor_rule.specs.Sorted.{RingOrder, places_at, key_in, key_of_index, hint_on, IsRow, IsBetween}
 
@@ -88,14 +89,37 @@ pub key_behind : (slots : List (Option (List (List ℕ)))) (order : List ℕ) (r
 key_behind slots order row q other index answer view lt read says =
     says ∙ ap (λ n. is_below (key_in slots row.ring n) q) (sym (number_here order row index other view lt read))
 
-hint_in : (ring x : ℕ) (o : Option (List (List ℕ))) → IfSome o (λ places. x ≡ hint_on ring places) → IsSomeAnd o (λ places. ring < length places) → x ≡ hint_on ring (unwrap_or o [])
-hint_in ring x None h some = absurd some
-hint_in ring x (Some places) h some = h
+rank_in : (ring other : ℕ) (x : Ranked) (o : Option (List (List ℕ))) → IfSome o (λ places. x ≡ record { hint = hint_on ring places; number = other }) → IsSomeAnd o (λ places. ring < length places) → x ≡ record { hint = hint_on ring (unwrap_or o []); number = other }
+rank_in ring other x None h some = absurd some
+rank_in ring other x (Some places) h some = h
 
--- the hint that was read of a member that has joined
-pub hint_here : (slots : List (Option (List (List ℕ)))) (hints : List ℕ) (row : RingOrder) (index other x : ℕ) → hints ≡ row.hints → index ≡ other → other < length hints → x ≡ get_or hints index x → IsRow slots row → IsSomeAnd (places_at slots other) (λ places. row.ring < length places) → x ≡ hint_on row.ring (unwrap_or (places_at slots other) [])
-hint_here slots hints row index other x view same lt read h some =
-    read ∙ ap (λ i. get_or hints i x) same ∙ sym (get_or_default hints other 0 x lt) ∙ ap (λ (l : List ℕ). get_or l other 0) view ∙ hint_in row.ring (get_or row.hints other 0) (places_at slots other) (h.hinted other) some
+-- the rank that was read of a member that has joined
+pub rank_here : (slots : List (Option (List (List ℕ)))) (ranks : List Ranked) (row : RingOrder) (index other : ℕ) (x : Ranked) → ranks ≡ row.ranks → index ≡ other → x ≡ get_or ranks index x → IsRow slots row → IsSomeAnd (places_at slots other) (λ places. row.ring < length places) → x ≡ record { hint = hint_on row.ring (unwrap_or (places_at slots other) []); number = other }
+rank_here slots ranks row index other x view same read h some =
+    read ∙ ap (λ i. get_or ranks i x) same ∙ ap (λ (l : List Ranked). get_or l other x) view ∙ rank_in row.ring other (get_or row.ranks other x) (places_at slots other) (h.ranked other x) some
+
+-- a rank that is kept stands in the list
+pub rank_within : (slots : List (Option (List (List ℕ)))) (row : RingOrder) (places : List (List ℕ)) (n : ℕ) → IsRow slots row → places_at slots n ≡ Some places → n < length row.ranks
+rank_within slots row places n h there =
+    let at : (d : Ranked) → get_or row.ranks n d ≡ record { hint = hint_on row.ring places; number = n } =
+    λ d. subst (λ (o : Option (List (List ℕ))). IfSome o (λ p. get_or row.ranks n d ≡ record { hint = hint_on row.ring p; number = n })) there (h.ranked n d) in
+    elim (cases_lt n (length row.ranks)) [
+      | inl lt ↦ lt
+      | inr past ↦
+          let other : Ranked = record { hint = 0; number = n + 1 } in
+          let same : n + 1 ≡ n = ap (λ (r : Ranked). r.number) (sym (get_or_past row.ranks n other past) ∙ at other) in
+          absurd (omega (arith, same))
+    ]
+
+some_places : (o : Option (List (List ℕ))) (ring : ℕ) → IsSomeAnd o (λ places. ring < length places) → (places : List (List ℕ)) × (o ≡ Some places)
+some_places None ring some = absurd some
+some_places (Some places) ring some = (places, refl)
+
+-- its rank stands in the list
+pub rank_there : (slots : List (Option (List (List ℕ)))) (ranks : List Ranked) (row : RingOrder) (index other : ℕ) → ranks ≡ row.ranks → index ≡ other → IsRow slots row → IsSomeAnd (places_at slots other) (λ places. row.ring < length places) → index < length ranks
+rank_there slots ranks row index other view same h some =
+    let there = some_places (places_at slots other) row.ring some in
+    omega (arith, same, ap length view, rank_within slots row there.0 other h there.1)
 
 tells_in : (ring x : ℕ) (o : Option (List (List ℕ))) → IfSome o (λ places. hint_on ring places < 2 ^ 32 - 1) → x ≡ hint_on ring (unwrap_or o []) → IsSomeAnd o (λ places. ring < length places) → x < 2 ^ 32 - 1
 tells_in ring x None h is some = absurd some

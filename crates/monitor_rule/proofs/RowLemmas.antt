@@ -1,5 +1,5 @@
 -- A ring in order once a member is put in at its place, or taken out.
-use Rattle.std.proofs.Common.{◌≡◌, ◌≢◌, ℕ, ◌+◌, ◌-◌, ◌^◌, ◌<◌, ◌≤◌, Bool, true, false, not, ◌&&◌, ◌⊎◌, inl, inr, List, [], Option, Some, None, length, get_or, set, sym, ap, ◌∙◌, subst, arith, get_or-set_other, get_or-set_same}
+use Rattle.std.proofs.Common.{◌≡◌, ◌≢◌, ℕ, ◌+◌, ◌-◌, ◌^◌, ◌<◌, ◌≤◌, Bool, true, false, not, ◌&&◌, ◌⊎◌, inl, inr, List, [], Option, Some, None, length, get_or, set, refl, sym, ap, ◌∙◌, subst, arith, get_or-set_other, get_or-set_same}
 use Rattle.std.specs.Prelude.{is_some, nat_lt}
 use Rattle.std.specs.List.{Contains, insert, remove}
 use Rattle.std.specs.Option.{unwrap_or, IsSomeAnd, IfSome}
@@ -9,9 +9,10 @@ use Rattle.std.proofs.lemmas.List.{get_or_default}
 use Rattle.std.proofs.lemmas.List.Edits.{length-insert, get_or-insert_below, get_or-insert_at, get_or-insert_above, length-remove, get_or-remove_below, get_or-remove_above}
 use Rattle.ff_ids.specs.Rings.{Key, is_below}
 use Rattle.ff_ids.specs.Views.{key_at}
+use Rattle.ring_order.specs.Ranks.{Ranked}
 use Rattle.ring_order.proofs.KeyOrder.{is_below_back}
 use Rattle.monitor_rule.specs.Sorted.{RingOrder, places_at, members_from, key_in, key_of_index, hint_on, IsRow, IsBetween}
-use Rattle.monitor_rule.proofs.OrderLemmas.{is_below-itself, key_here}
+use Rattle.monitor_rule.proofs.OrderLemmas.{is_below-itself, key_here, rank_within}
 use Rattle.monitor_rule.proofs.SlotLemmas.{Slots, members_from-filled, length-with_member, length-emptied}
 use Rattle.monitor_rule.proofs.NeighbourLemmas.{Placed-index, Indexed-joined, apart_indexes}
 
@@ -109,26 +110,35 @@ inserted_listed slots row places place m n h le some =
           ]
     ]
 
-hinted_joined : (slots : Slots) (row : RingOrder) (places : List (List ℕ)) (m n : ℕ) → IsRow slots row → m < length slots → m < length row.hints → IfSome (places_at (set slots m (Some places)) n) (λ p. get_or (set row.hints m (hint_on row.ring places)) n 0 ≡ hint_on row.ring p)
-hinted_joined slots row places m n h in' in_hints =
-    let hint = hint_on row.ring places in
-    let P : Option (List (List ℕ)) → Type 0 = λ o. IfSome o (λ p. get_or (set row.hints m hint) n 0 ≡ hint_on row.ring p) in
+-- the ranks once a member has joined: its own, and those before
+pub record AreRanks (row : RingOrder) (places : List (List ℕ)) (m : ℕ) (after : List Ranked) : Type 0 where
+  pub own : (d : Ranked) → get_or after m d ≡ record { hint = hint_on row.ring places; number = m }
+  pub others : (n : ℕ) (d : Ranked) → n ≢ m → n < length row.ranks → get_or after n d ≡ get_or row.ranks n d
+
+ranked_joined : (slots : Slots) (row : RingOrder) (places : List (List ℕ)) (after : List Ranked) (m n : ℕ) (d : Ranked) → IsRow slots row → AreRanks row places m after → m < length slots → IfSome (places_at (set slots m (Some places)) n) (λ p. get_or after n d ≡ record { hint = hint_on row.ring p; number = n })
+ranked_joined slots row places after m n d h are in' =
+    let P : Option (List (List ℕ)) → Type 0 = λ o. IfSome o (λ p. get_or after n d ≡ record { hint = hint_on row.ring p; number = n }) in
     elim (cases_eq n m) [
       | inl own ↦
           let at : places_at (set slots m (Some places)) n ≡ Some places = ap (λ k. get_or (set slots m (Some places)) k None) own ∙ get_or-set_same slots m (Some places) None in' in
-          subst P (sym at) (ap (λ k. get_or (set row.hints m hint) k 0) own ∙ get_or-set_same row.hints m hint 0 in_hints)
+          subst P (sym at) (ap (λ k. get_or after k d) own ∙ are.own d ∙ ap (λ (k : ℕ). record { hint = hint_on row.ring places; number = k }) (sym own))
       | inr apart ↦
-          subst P (sym (get_or-set_other slots m n (Some places) None apart)) (subst (λ (x : ℕ). IfSome (places_at slots n) (λ p. x ≡ hint_on row.ring p)) (sym (get_or-set_other row.hints m n hint 0 apart)) (h.hinted n))
+          subst P (sym (get_or-set_other slots m n (Some places) None apart)) (as_before (places_at slots n) refl apart)
     ]
+  where
+    as_before : (o : Option (List (List ℕ))) → places_at slots n ≡ o → n ≢ m → IfSome o (λ p. get_or after n d ≡ record { hint = hint_on row.ring p; number = n })
+    as_before None there apart = tt
+    as_before (Some p) there apart =
+        are.others n d apart (rank_within slots row p n h there) ∙ subst (λ (o : Option (List (List ℕ))). IfSome o (λ p. get_or row.ranks n d ≡ record { hint = hint_on row.ring p; number = n })) there (h.ranked n d)
 
-hinted_left : (slots : Slots) (row : RingOrder) (m n : ℕ) → IsRow slots row → m < length slots → IfSome (places_at (set slots m None) n) (λ p. get_or row.hints n 0 ≡ hint_on row.ring p)
-hinted_left slots row m n h in' =
-    let P : Option (List (List ℕ)) → Type 0 = λ o. IfSome o (λ p. get_or row.hints n 0 ≡ hint_on row.ring p) in
+ranked_left : (slots : Slots) (row : RingOrder) (m n : ℕ) (d : Ranked) → IsRow slots row → m < length slots → IfSome (places_at (set slots m None) n) (λ p. get_or row.ranks n d ≡ record { hint = hint_on row.ring p; number = n })
+ranked_left slots row m n d h in' =
+    let P : Option (List (List ℕ)) → Type 0 = λ o. IfSome o (λ p. get_or row.ranks n d ≡ record { hint = hint_on row.ring p; number = n }) in
     elim (cases_eq n m) [
       | inl own ↦
           let at : places_at (set slots m None) n ≡ None = ap (λ k. get_or (set slots m None) k None) own ∙ get_or-set_same slots m None None in' in
           subst P (sym at) tt
-      | inr apart ↦ subst P (sym (get_or-set_other slots m n None None apart)) (h.hinted n)
+      | inr apart ↦ subst P (sym (get_or-set_other slots m n None None apart)) (h.ranked n d)
     ]
 
 both_true : (b c : Bool) → b && c ≡ true → (b ≡ true) × (c ≡ true)
@@ -155,8 +165,8 @@ telling_left slots row m n h in' all =
       | inr apart ↦ subst P (sym (get_or-set_other slots m n None None apart)) (h.telling n all)
     ]
 
-pub IsRow-joined : (slots : Slots) (row : RingOrder) (places : List (List ℕ)) (place m : ℕ) → IsRow slots row → IsBetween slots row (key_at row.ring places m) place place → places_at slots m ≡ None → m < length slots → row.ring < length places → m < length row.hints → IsRow (set slots m (Some places)) (record row { order = insert row.order place m; hints = set row.hints m (hint_on row.ring places); told = row.told && nat_lt (hint_on row.ring places) (2 ^ 32 - 1) })
-IsRow-joined slots row places place m h between free in' long in_hints =
+pub IsRow-joined : (slots : Slots) (row : RingOrder) (places : List (List ℕ)) (ranks : List Ranked) (place m : ℕ) → AreRanks row places m ranks → IsRow slots row → IsBetween slots row (key_at row.ring places m) place place → places_at slots m ≡ None → m < length slots → row.ring < length places → IsRow (set slots m (Some places)) (record row { order = insert row.order place m; ranks = ranks; told = row.told && nat_lt (hint_on row.ring places) (2 ^ 32 - 1) })
+IsRow-joined slots row places ranks place m are h between free in' long =
     let le = between.within in
     let more = length-insert row.order place m le in
     let at : (i : ℕ) → i < length (insert row.order place m) → Inserted slots (set slots m (Some places)) row (key_at row.ring places m) place m i = λ i lt. inserted slots row places place m i h free in' le (omega (arith, more, lt)) in
@@ -165,7 +175,7 @@ IsRow-joined slots row places place m h between free in' long in_hints =
       joined = λ i lt. inserted_joined slots row places place m i h free in' long le (omega (arith, more, lt)) (at i lt);
       listed = λ n some. inserted_listed slots row places place m n h le some;
       count = more ∙ ap (λ x. x + 1) h.count ∙ sym (ap length (members_from-filled 0 slots m places free in') ∙ length-with_member (record { number = 0 + m; places = places }) (members_from 0 slots));
-      hinted = λ n. hinted_joined slots row places m n h in' in_hints;
+      ranked = λ n d. ranked_joined slots row places ranks m n d h are in';
       telling = λ n all. telling_joined slots row places m n h in' all;
     }
 
@@ -258,7 +268,7 @@ IsRow-left slots row places place m h between there in' =
         joined = λ i lt. removed_joined slots row m place i h at (omega (arith, fewer, lt)) (is i lt);
         listed = λ n some. removed_listed slots row m place n h at (λ e. true≢false (sym some ∙ ap (λ k. is_some (places_at (set slots m None) k)) e ∙ gone)) some;
         count = omega (arith, fewer, h.count, length-emptied 0 slots m places there);
-        hinted = λ n. hinted_left slots row m n h in';
+        ranked = λ n d. ranked_left slots row m n d h in';
         telling = λ n all. telling_left slots row m n h in' all;
       },
     )
@@ -271,6 +281,6 @@ IsRow-empty slots row none nobody =
       joined = λ i lt. absurd (omega arith);
       listed = λ n some. absurd (true≢false (sym some ∙ ap is_some (none n)));
       count = sym (ap length nobody);
-      hinted = λ n. subst (λ (o : Option (List (List ℕ))). IfSome o (λ p. get_or row.hints n 0 ≡ hint_on row.ring p)) (sym (none n)) tt;
+      ranked = λ n d. subst (λ (o : Option (List (List ℕ))). IfSome o (λ p. get_or row.ranks n d ≡ record { hint = hint_on row.ring p; number = n })) (sym (none n)) tt;
       telling = λ n all. subst (λ (o : Option (List (List ℕ))). IfSome o (λ p. hint_on row.ring p < 2 ^ 32 - 1)) (sym (none n)) tt;
     }

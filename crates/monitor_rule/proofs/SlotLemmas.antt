@@ -41,6 +41,21 @@ Contains-key ring low (Some own ∷ slots) (suc i) places h =
     let moved = subst (λ (n : ℕ). Contains (keys_on ring (members_from (low + 1) slots)) (key_at ring places n)) (sym (next_number low i)) rest in
     Contains-append_right (key_at ring own low ∷ []) (keys_on ring (members_from (low + 1) slots)) (key_at ring places (low + suc i)) moved
 
+-- a member whose places are in a slot is among them
+pub Contains-member : (low : ℕ) (slots : Slots) (i : ℕ) (places : List (List ℕ)) → get_or slots i None ≡ Some places → Contains (members_from low slots) (record { number = low + i; places = places })
+Contains-member low [] i places h = cc
+Contains-member low (None ∷ slots) zero places h = cc
+Contains-member low (Some own ∷ slots) zero places h =
+    let same : own ≡ places = cc in
+    let e : low ≡ low + 0 = omega arith in
+    (0, omega arith, ap (λ p. record { number = low; places = p }) same ∙ ap (λ n. record { number = n; places = places }) e)
+Contains-member low (None ∷ slots) (suc i) places h =
+    subst (λ (n : ℕ). Contains (members_from (low + 1) slots) (record { number = n; places = places })) (sym (next_number low i)) (Contains-member (low + 1) slots i places h)
+Contains-member low (Some own ∷ slots) (suc i) places h =
+    let rest = Contains-member (low + 1) slots i places h in
+    let moved = subst (λ (n : ℕ). Contains (members_from (low + 1) slots) (record { number = n; places = places })) (sym (next_number low i)) rest in
+    Contains-append_right (record { number = low; places = own } ∷ []) (members_from (low + 1) slots) (record { number = low + suc i; places = places }) moved
+
 -- a number below all of them comes first
 with_first : (m : Member) (low : ℕ) (slots : Slots) → m.number < low → with_member m (members_from low slots) ≡ m ∷ members_from low slots
 with_first m low [] h = refl

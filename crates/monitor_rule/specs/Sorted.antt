@@ -7,6 +7,7 @@ use Rattle.ff_ids.specs.declared.TheConstants.{MAX_RINGS, MEMBERS}
 use Rattle.ff_ids.specs.Rings.{Key, is_below}
 use Rattle.ff_ids.specs.Views.{Member, key_at}
 use Rattle.ring_order.specs.Rows.{hint_of}
+use Rattle.ring_order.specs.Ranks.{Ranked}
 
 -- The places of the number's member, or none where it hasn't joined.
 abbrev pub places_at : List (Option (List (List ℕ))) → ℕ → Option (List (List ℕ))
@@ -22,12 +23,12 @@ members_from n (Some places ∷ slots) = record { number = n; places = places } 
 abbrev pub key_in : List (Option (List (List ℕ))) → ℕ → ℕ → Key
 key_in slots ring n = key_at ring (unwrap_or (places_at slots n) []) n
 
--- A ring, the numbers of those on it, by number the hints of their places there, and whether it is known that all of
--- these tell.
+-- A ring, the numbers of those on it, by number the hints of their places there beside the numbers, and whether it is known
+-- that all of these hints tell.
 pub record RingOrder : Type 0 where
   pub ring : ℕ
   pub order : List ℕ
-  pub hints : List ℕ
+  pub ranks : List Ranked
   pub told : Bool
 
 -- The ring without anybody.
@@ -48,7 +49,7 @@ pub record IsRow (slots : List (Option (List (List ℕ)))) (row : RingOrder) : T
   pub joined : (i : ℕ) → i < length row.order → IsSomeAnd (places_at slots (slice_index row.order i)) (λ places. row.ring < length places)
   pub listed : (n : ℕ) → is_some (places_at slots n) ≡ true → Contains row.order n
   pub count : length row.order ≡ length (members_from 0 slots)
-  pub hinted : (n : ℕ) → IfSome (places_at slots n) (λ places. slice_index_or row.hints n 0 ≡ hint_on row.ring places)
+  pub ranked : (n : ℕ) (d : Ranked) → IfSome (places_at slots n) (λ places. slice_index_or row.ranks n d ≡ record { hint = hint_on row.ring places; number = n })
   pub telling : (n : ℕ) → row.told ≡ true → IfSome (places_at slots n) (λ places. hint_on row.ring places < 2 ^ 32 - 1)
 
 -- Those before the first index are below the key, and those from the second on aren't.

@@ -82,14 +82,14 @@ impl Rings {
         self.numbers.put(member);
     }
 
-    /// Takes the member off the rings.
-    pub fn leave(&mut self, member: MemberId)
-        requires { is_joined self.old.members member ≡ true }
+    /// Takes the member off the rings. The places are those with which it joined.
+    pub fn leave(&mut self, member: MemberId, places: &Places)
+        requires joined { is_joined self.old.members member ≡ true }
+        requires placed { All (λ x. x.number ≡ member → x.places ≡ places.now) self.old.members }
         ensures { self.new
             ≡ record self.old { members = without_member member self.old.members } }
     {
-        let places = self.slots.places_of(member);
-        leave_each(&mut self.rows, &self.slots, member, &places);
+        leave_each(&mut self.rows, &self.slots, member, places);
         self.slots.empty(member);
         self.numbers.take_out(member);
     }

@@ -1,17 +1,18 @@
 //! One ring: the joined members in order of their keys there, found by halving.
 
-ghost use Rattle.std.specs.Prelude.{◌≡◌, ℕ, List, Option, ◌+◌, ◌-◌, ◌*◌, ◌/◌, ◌^◌, ◌<◌, ◌≤◌, ◌==◌, true, None, Some, [], length, is_some, slice_index, slice_set, IfOk, if◌then◌else◌};
+ghost use Rattle.std.specs.Prelude.{◌≡◌, ℕ, List, Option, ◌+◌, ◌-◌, ◌*◌, ◌/◌, ◌^◌, ◌<◌, ◌≤◌, ◌==◌, true, None, Some, [], length, is_some, slice_index, slice_index_or, slice_set, vec_capacity, IfOk, if◌then◌else◌};
 ghost use Rattle.std.specs.Option.{IsSomeAnd};
 ghost use Rattle.ff_ids.specs.declared.TheConstants.{MEMBERS};
 ghost use Rattle.ff_ids.specs.Rings.{Key, is_below, nearest_before as number_before, nearest_after as number_after};
 ghost use Rattle.ff_ids.specs.Views.{key_at};
+ghost use Rattle.ring_order.specs.Ranks.{Ranked};
 ghost use Rattle.monitor_rule.specs.Joined.{keys_on};
 ghost use Rattle.monitor_rule.specs.Sorted.{places_at, members_from, key_in, key_of_index, hint_on, IsRow, IsBetween};
 
 use crate::slots::Slots;
 use ff_ids::{MEMBERS, MemberId, RingNo};
 use ring_order::steps::Steps;
-use ring_order::{Places, hint_before, is_telling};
+use ring_order::{Places, Rank, is_telling};
 use std::alloc::{AllocError, Global};
 use std::marker::{Brand, Model};
 use std::sync::ledger::{Blank, Ledger};
@@ -21,8 +22,8 @@ use std::sync::ledger::{Blank, Ledger};
 pub struct Row {
     ring: RingNo,
     order: Vec<MemberId>,
-    /// By number the hint of the member's place, for each that has joined.
-    hints: Vec<u32>,
+    /// By number the hint of the member's place beside the number, for each that has joined, up to the greatest that did.
+    ranks: Vec<Rank>,
     /// Whether each of these hints tells.
     told: bool,
     /// Where in the order the last member joined.
@@ -37,9 +38,25 @@ impl Model for Row {
     ghost Value = { RingOrder };
 
     ghost view = { λ r. record
-        { ring = r.ring.0; order = r.order.items; hints = r.hints.items; told = r.told } };
+        { ring = r.ring.0; order = r.order.items; ranks = r.ranks.items; told = r.told } };
 
-    ghost invariant = { λ r. (MEMBERS ≤ vec_capacity r.order) × (length r.hints.items ≡ MEMBERS) };
+    ghost invariant = { λ r. (MEMBERS ≤ vec_capacity r.order)
+        × ((MEMBERS ≤ vec_capacity r.ranks) × (length r.ranks.items ≤ MEMBERS)) };
+}
+
+/// Makes the list reach this member, for which it has room.
+fn reach(ranks: &mut Vec<Rank>, member: MemberId)
+    requires few { length ranks.old.items ≤ MEMBERS }
+    requires room { MEMBERS ≤ vec_capacity ranks.old }
+    ensures reached { member < length ranks.new.items }
+    ensures few { length ranks.new.items ≤ MEMBERS }
+    ensures room { MEMBERS ≤ vec_capacity ranks.new }
+    ensures same { (n : ℕ) (d : Ranked) → n < length ranks.old.items
+        → slice_index_or ranks.new.items n d ≡ slice_index_or ranks.old.items n d }
+{
+    'growing: while ranks.len() <= member.get() as usize {
+        ranks.push_reserved(Rank::new(0, member));
+    }
 }
 
 impl Row {
@@ -51,7 +68,7 @@ impl Row {
         Ok(Row {
             ring,
             order: Vec::with_capacity(alloc, MEMBERS as usize)?,
-            hints: vec![in alloc; 0; MEMBERS as usize]?,
+            ranks: Vec::with_capacity(alloc, MEMBERS as usize)?,
             told: true,
             near: 0,
         })
@@ -71,7 +88,8 @@ impl Row {
     {
         let hint = places.hint(self.ring);
         let _ = self.order.insert(place, member);
-        self.hints[member.get() as usize] = hint;
+        reach(&mut self.ranks, member);
+        self.ranks[member.get() as usize] = Rank::new(hint, member);
         self.told &= is_telling(hint);
         self.near = place;
     }
@@ -305,8 +323,7 @@ impl Row {
             return false;
         }
         let other = self.order[index];
-        let other_hint = self.hints[other.get() as usize];
-        other == member && other_hint == places.hint(self.ring)
+        other == member && self.ranks[other.get() as usize].hint() == places.hint(self.ring)
     }
 
     /// As `search`. Where the member is at this index no step is made.
@@ -622,8 +639,8 @@ impl Row {
             (key_at self.now.ring places.now member) then 1 else 0) }
         ensures step { steps.new ≡ steps.old + 1 }
     {
+        let own = Rank::new(hint, member);
         let other = self.order[index];
-        let other_hint = self.hints[other.get() as usize];
-        hint_before(other_hint, other, hint, member, steps)
+        self.ranks[other.get() as usize].precedes(own, steps)
     }
 }

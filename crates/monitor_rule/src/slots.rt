@@ -162,19 +162,6 @@ impl Slots {
         }
     }
 
-    /// The places in the slot of the member.
-    pub fn places_of(&self, member: MemberId) -> Places
-        requires filled { is_some (slice_index_or self.now member None) ≡ true }
-        ensures value { slice_index_or self.now member None ≡ Some result }
-        ensures range { member < MEMBERS }
-    {
-        let index = member.get() as usize;
-        match &self.hinted[index] {
-            Some(hints) => hints.places(),
-            None => *filled_at(&self.whole, index),
-        }
-    }
-
     /// Whether a member that has joined comes before the other one on the ring. It counts one step.
     pub fn is_before<L: Ledger>(
         &self,

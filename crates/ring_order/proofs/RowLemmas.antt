@@ -5,7 +5,6 @@ use Rattle.std.proofs.lemmas.Grind.{take-set_at}
 use Rattle.std.specs.Str.{bytes_eq}
 use Rattle.std.specs.List.{list_all}
 use Rattle.std.proofs.lemmas.Slice.Eq.{bytes_eq-Decides}
-use Rattle.std.proofs.lemmas.Nat.{from_be_bytes-to_be_bytes_4}
 use Rattle.std.proofs.lemmas.List.Folds.{list_all_at}
 use Rattle.std.proofs.lemmas.List.{map-set, get_or-map, get_or-take, length-take}
 use Rattle.ff_ids.specs.declared.TheConstants.{MAX_RINGS}
@@ -92,17 +91,6 @@ kept_from rows count tails plain h =
     ap (λ (q : List (List ℕ) × ℕ). (q.0, q.1, map tail_of q.0, list_all is_plain q.0)) h.is_filled
     ∙ ap (λ ts. (rows, count, ts, list_all is_plain rows)) (sym h.are_tails) ∙ ap (λ b. (rows, count, tails, b)) (sym h.is_all)
 
--- the place that a number stands for is plain, and its tail is the number
-tail_of-number : (n : ℕ) → n < 2 ^ 32 → tail_of (place_of_number n) ≡ n
-tail_of-number n fits = from_be_bytes-to_be_bytes_4 n fits
-
-is_plain-number : (n : ℕ) → n < 2 ^ 32 → is_plain (place_of_number n) ≡ true
-unfolding is_plain
-is_plain-number n fits =
-    let row = place_of_number n in
-    let same : row ≡ place_of_number (tail_of row) = ap place_of_number (sym (tail_of-number n fits)) in
-    grind (arith, bytes_eq-Decides row (place_of_number (tail_of row)), same)
-
 -- one more row
 pub kept-set : (rows used : List (List ℕ)) (count : ℕ) (tails : List ℕ) (plain : Bool) (row : List ℕ) → kept_of (take count rows) ≡ (rows, count, tails, plain) → take count rows ≡ used → length rows ≡ MAX_RINGS → length used < MAX_RINGS → kept_of (take (count + 1) (set rows count row)) ≡ (set rows count row, count + 1, set tails count (tail_of row), plain && is_plain row)
 kept-set rows used count tails plain row h view len room =
@@ -114,18 +102,6 @@ kept-set rows used count tails plain row h view len room =
       are_tails = ap (λ ts. set ts count (tail_of row)) k.are_tails ∙ sym (map-set tail_of rows count row);
       is_all = ap (λ b. b && is_plain row) k.is_all ∙ sym (all_plain-set (take count rows) rows count row k.is_filled below);
     })
-
-and_true : (b : Bool) → b ≡ (b && true)
-and_true true = refl
-and_true false = refl
-
--- one more that a number stands for
-pub kept-number : (rows used : List (List ℕ)) (count : ℕ) (tails : List ℕ) (plain : Bool) (n : ℕ) → kept_of (take count rows) ≡ (rows, count, tails, plain) → take count rows ≡ used → length rows ≡ MAX_RINGS → length used < MAX_RINGS → n < 2 ^ 32 → kept_of (take (count + 1) (set rows count (place_of_number n))) ≡ (set rows count (place_of_number n), count + 1, set tails count n, plain)
-kept-number rows used count tails plain n h view len room fits =
-    kept-set rows used count tails plain (place_of_number n) h view len room
-    ∙ ap (λ t. (set rows count (place_of_number n), count + 1, set tails count t, plain && is_plain (place_of_number n))) (tail_of-number n fits)
-    ∙ ap (λ b. (set rows count (place_of_number n), count + 1, set tails count n, plain && b)) (is_plain-number n fits)
-    ∙ ap (λ b. (set rows count (place_of_number n), count + 1, set tails count n, b)) (sym (and_true plain))
 
 -- the row is the place of the number
 pub record IsPlaceOf (row : List ℕ) (n : ℕ) : Type 0 where

@@ -1,3 +1,4 @@
 pub mod Rows
 pub mod Nearest
 pub mod Hashed
+pub mod Ranks

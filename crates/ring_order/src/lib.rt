@@ -4,7 +4,6 @@
 
 ghost use Rattle.std.specs.Prelude.{◌≡◌, ◌<◌, ◌≤◌, ◌+◌, ◌*◌, ◌-◌, ◌^◌, nat_lt, [], ◌∷◌, ◌++◌, ◌↔◌, length, map, All, IsNone, IfSome, option_map, get_or, if◌then◌else◌};
 ghost use Rattle.ff_ids.specs.declared.TheConstants.{MAX_RINGS};
-ghost use Rattle.ring_order.specs.declared.TheConstants.{RANKS};
 ghost use Rattle.ff_ids.specs.Rings.{Key, is_below, is_between, others, nearest_before as number_before, nearest_after as number_after};
 ghost use Rattle.ff_ids.specs.Views.{key_at};
 ghost use Rattle.ring_order.specs.Rows.{place_of_number, is_plain, tail_of, hint_of};
@@ -12,10 +11,12 @@ ghost use Rattle.ring_order.specs.Nearest.{key_of_pair, keys_of, nearer, nearest
 
 mod hashed;
 pub mod laws;
+mod rank;
 pub mod steps;
 
 use ff_ids::{MAX_RINGS, MemberId, RingNo};
 pub use hashed::hash_places;
+pub use rank::Rank;
 use std::marker::Model;
 use std::sync::ledger::Ledger;
 use steps::Steps;
@@ -78,17 +79,6 @@ impl Places {
         self.count += 1;
     }
 
-    /// Appends the place that a number stands for.
-    fn push_number(&mut self, number: u32)
-        requires { length self.old < MAX_RINGS }
-        ensures { self.new ≡ self.old ++ place_of_number number ∷ [] }
-    {
-        let index = self.count as usize;
-        self.tails[index] = number;
-        self.rows[index] = place_of(number);
-        self.count += 1;
-    }
-
     /// The member of this number on the ring.
     fn spot(&self, ring: RingNo, number: MemberId) -> Spot
         requires { ring.0 < length self.now }
@@ -137,7 +127,7 @@ impl Places {
         self.rows[ring.0 as usize][0]
     }
 
-    /// What the place on the ring says at once of its order: `hint_before` compares two of these.
+    /// What the place on the ring says at once of its order: `Rank::precedes` compares two of these.
     #[inline]
     pub fn hint(&self, ring: RingNo) -> u32
         requires { ring.0 < length self.now }
@@ -177,6 +167,8 @@ fn is_plain(place: &[u8; 32]) -> bool
 /// The hint of a place that no number stands for. It says nothing.
 const NO_HINT: u32 = u32::MAX;
 
+#[cold]
+#[inline(never)]
 fn hint_of(place: &[u8; 32]) -> u32
     ensures { result ≡ hint_of place.now }
 {
@@ -204,7 +196,7 @@ pub fn number_places(places: &[u32]) -> Places
 {
     let mut all = Places::new();
     for place in places {
-        all.push_number(*place);
+        all.push(place_of(*place));
     }
     all
 }
@@ -271,45 +263,12 @@ pub fn key_before<L: Ledger>(
     key_order(ring, a_places, a, b_places, b)
 }
 
-/// Each rank is below this.
-const RANKS: u64 = 1 << 48;
-
-/// The hint and the number in one number, in the order of keys whose hints tell.
-#[inline]
-fn rank(hint: u32, number: MemberId) -> u64
-    ensures value { result ≡ hint * 2 ^ 16 + number }
-    ensures range { result < RANKS }
-{
-    u64::from(hint) * 65_536 + u64::from(number.get())
-}
-
 /// Whether the hint tells: only that of a place which no number stands for doesn't, and that of the greatest number.
 #[inline]
 pub fn is_telling(hint: u32) -> bool
     ensures { result ≡ nat_lt hint (2 ^ 32 - 1) }
 {
     hint < NO_HINT
-}
-
-/// 1 where the member of the first number, whose place has hint `a`, comes before that of the second, whose place has hint
-/// `b`, and else 0. It counts one step. The answer is a difference and no branch: which way a search goes can't be foretold.
-#[inline]
-pub fn hint_before<L: Ledger>(
-    a: u32,
-    first: MemberId,
-    b: u32,
-    second: MemberId,
-    steps: &mut Steps<L>,
-) -> usize
-    requires a_tells { a < 2 ^ 32 - 1 }
-    requires b_tells { b < 2 ^ 32 - 1 }
-    ensures value { (j k : Key) → a ≡ hint_of j.place → first ≡ j.number → b ≡ hint_of k.place
-        → second ≡ k.number → result ≡ (if is_below j k then 1 else 0) }
-    ensures range { result ≤ 1 }
-    ensures step { steps.new ≡ steps.old + 1 }
-{
-    steps.add_one();
-    ((rank(b, second) + (RANKS - 1) - rank(a, first)) / RANKS) as usize
 }
 
 /// On which side of a member to look.

@@ -6,7 +6,7 @@ use std::marker::Model;
 use std::sync::ledger::{Blank, Book, Ledger, Share};
 
 /// How many comparisons of keys were made, counted in the ledger L. Contracts see the number. The ledger opens once,
-/// so no code over any L makes a second counter of it, and only `key_before` and `hint_before`
+/// so no code over any L makes a second counter of it, and only `key_before` and `Rank::precedes`
 /// add to one.
 #[derive(Drop)]
 pub struct Steps<L: Ledger> {

@@ -5,7 +5,7 @@ use Rattle.monitor_rule.specs.Joined.{with_member}
 use Rattle.membership.specs.Kept.{member_at}
 use Rattle.membership.specs.Life.{Life, note_fault_in}
 use Rattle.membership.specs.contracts.Membership.{the_view}
-use Rattle.membership.proofs.SoundLemmas.{absent_before, present_before, members_then, IsSound-noted}
+use Rattle.membership.proofs.SoundLemmas.{absent_before, present_before, members_then, IsSound-noted, own_places}
 use Rattle.membership.proofs.Membership.accept.Goals as goal
 
 pub join-requires-clause-absent : goal.join-requires-clause-absent
@@ -13,10 +13,15 @@ join-requires-clause-absent c =
     let fault = ap (λ (l : Life). note_fault_in l c.args.note.now) c.self.view_is ∙ c.requires in
     absent_before (the_view c.self.inside) c.self.inside.rings c.args.note.now c.self.invariant.sound fault (sym c.effect_of-effect.ensures ∙ c.in-Enters.is)
 
-pub leave-requires : goal.leave-requires
-leave-requires c =
+pub leave-requires-clause-joined : goal.leave-requires-clause-joined
+leave-requires-clause-joined c =
     let fault = ap (λ (l : Life). note_fault_in l c.args.note.now) c.self.view_is ∙ c.requires in
     present_before (the_view c.self.inside) c.self.inside.rings c.args.note.now c.self.invariant.sound fault (sym c.effect_of-effect.ensures ∙ c.in-Leaves.is)
+
+pub leave-requires-clause-placed : goal.leave-requires-clause-placed
+leave-requires-clause-placed c =
+    let placed = sym c.get-in-Leaves.ensures ∙ ap option_copied c.unwrap-places-in-Leaves.ensures in
+    own_places c.self.inside.group c.self.inside.places c.self.inside.notes c.self.inside.expired c.self.inside.rings c.args.note.now.member c.unwrap-places-in-Leaves.result.now c.self.invariant.sound placed
 
 pub invariant_of-self : goal.invariant_of-self
 invariant_of-self c =
