@@ -32,6 +32,7 @@ impl Script for Player {
 
     ghost reaches = { λ _ _ _. Unit {0} };
 
+    #[inline(never)]
     fn line(
         &mut self,
         alloc: Global,
@@ -53,6 +54,7 @@ impl Script for Player {
         }
     }
 
+    #[inline(never)]
     fn end(&self, _alloc: Global, _text: &mut Vec<u8>) -> Result<(), Refusal<Cause>> {
         match self.lines.end() {
             Ok(()) => Ok(()),
