@@ -21,7 +21,8 @@ const GROUP: Group = Group {
 #[test]
 fn neighbours_of_the_joined(rt: HostRuntime) -> Result<(), Fail> {
     let mut rings = Rings::open(rt.alloc(), &GROUP)?;
-    rings.join(MemberId::new(7), &number_places(&[30, 2, 5]));
+    let places = number_places(&[30, 2, 5]);
+    rings.join(MemberId::new(7), &places);
     let own = number_places(&[20, 9, 5]);
     let ring = RingNo(0);
     assert_eq!(rt;
@@ -29,7 +30,7 @@ fn neighbours_of_the_joined(rt: HostRuntime) -> Result<(), Fail> {
         Some(MemberId::new(7))
     );
     assert_eq!(rt; rings.successor(ring, MemberId::new(7), &own), None);
-    rings.leave(MemberId::new(7));
+    rings.leave(MemberId::new(7), &places);
     assert_eq!(rt; rings.monitor(ring, MemberId::new(3), &own), None);
     Ok(())
 }
