@@ -1,9 +1,9 @@
 -- Kept accusations that end one after another.
-use Rattle.std.proofs.Common.{◌≡◌, ℕ, zero, suc, replicate, get_or, take, ◌+◌, ◌-◌, ◌<◌, ◌≤◌, Bool, true, false, cond, not, ◌&&◌, ◌||◌, eqb, List, [], ◌∷◌, map, length, Option, Some, None, refl, ap, sym, ◌∙◌, subst, arith}
+use Rattle.std.proofs.Common.{◌≡◌, ℕ, zero, suc, replicate, get_or, take, ◌+◌, ◌-◌, ◌<◌, ◌≤◌, Bool, true, false, cond, not, ◌&&◌, ◌||◌, eqb, List, [], ◌∷◌, map, length, Option, Some, None, inl, inr, refl, ap, sym, ◌∙◌, subst, arith}
 use Rattle.std.specs.Prelude.{nat_lt, slice_index_or, IfSome}
 use Rattle.std.specs.List.{list_any, filter, insert, prefix_len, AllByRecursion}
 use Rattle.std.specs.Option.{option_map_or}
-use Rattle.std.proofs.lemmas.Bool.{eqb-true, true≢false}
+use Rattle.std.proofs.lemmas.Bool.{cases_lt, eqb-true, true≢false}
 use Rattle.std.proofs.lemmas.Bool.Decides.{nat_tests}
 use Rattle.std.proofs.lemmas.List.Edits.{length-insert}
 use Rattle.std.proofs.lemmas.List.Filters.{length-filter_both}
@@ -360,6 +360,15 @@ pub named_all : (named : List (Option ℕ)) (k : ℕ) (p : Entry) → p.0.ring.0
 named_all named k p below =
     let e : nat_lt p.0.ring.0 k ≡ true = grind (arith, nat_tests) in
     ap (λ b. b && is_named named p) e
+
+-- the rings below k are all for which somebody is named
+pub named_first : (named : List (Option ℕ)) (k : ℕ) (p : Entry) → (k ≤ p.0.ring.0 → slice_index_or named p.0.ring.0 None ≡ None) → is_named_below k named p ≡ is_named named p
+named_first named k p none = elim (cases_lt p.0.ring.0 k) [
+  | inl below ↦ named_all named k p below
+  | inr past ↦
+      let off : nat_lt p.0.ring.0 k ≡ false = grind (arith, nat_tests) in
+      ap (λ b. b && is_named named p) off ∙ sym (ap (λ o. is_number o p.0.accused) (none past))
+]
 
 -- named as what is answered
 answered_by : (l : Life) (n : NoteBody) (p : Entry) → entry_at p.0.accused p.0.ring.0 l.kept ≡ Some p → is_number (answered_on l n p.0.ring.0) p.0.accused ≡ is_answered n p

@@ -39,8 +39,9 @@ impl Membership {
             }
             NoteEffect::Leaves => self.end_of(note.member, out),
             NoteEffect::Stays => {
-                let answered = self.answered_by(note);
-                self.end_named(&answered, out);
+                let rings = self.rings_against(note.member);
+                let answered = self.answered_by(note, rings);
+                self.end_first(&answered, rings, out);
             }
         }
     }
@@ -71,17 +72,29 @@ impl Membership {
         }
     }
 
-    /// For each ring the note's member where the note answers what is kept against it there. Where nothing is, no ring is
-    /// looked at.
-    fn answered_by(&self, note: &NoteBody) -> [Option<MemberId>; MAX_RINGS as usize]
-        ensures { (ring : ℕ) → ring < ring_count self.now.group.t → slice_index_or result ring None
-            ≡ answered_on self.now note.now ring }
+    /// How many of the first rings there are up to the last on which something is kept against the member.
+    fn rings_against(&self, member: MemberId) -> u8
+        ensures few { result ≤ ring_count self.now.group.t }
+        ensures most { result ≤ MAX_RINGS }
+        ensures none { (ring : ℕ) → result ≤ ring → ring < ring_count self.now.group.t
+            → entry_at member ring self.now.kept ≡ None }
     {
-        if !self.timers.is_accused(note.member) {
-            return [None; MAX_RINGS as usize];
-        }
+        self.timers.rings_against(member).min(2 * self.group.t + 1)
+    }
+
+    /// For each ring the note's member where the note answers what is kept against it there, which is on so many of the
+    /// first rings. No other is looked at.
+    fn answered_by(&self, note: &NoteBody, rings: u8) -> [Option<MemberId>; MAX_RINGS as usize]
+        requires few { rings ≤ ring_count self.now.group.t }
+        requires most { rings ≤ MAX_RINGS }
+        requires none { (ring : ℕ) → rings ≤ ring → ring < ring_count self.now.group.t
+            → entry_at note.now.member ring self.now.kept ≡ None }
+        ensures each { (ring : ℕ) → ring < ring_count self.now.group.t
+            → slice_index_or result ring None ≡ answered_on self.now note.now ring }
+        ensures beyond { (ring : ℕ) → rings ≤ ring → slice_index_or result ring None ≡ None }
+    {
         let mut named = [None; MAX_RINGS as usize];
-        for ring in 0..2 * self.group.t + 1 {
+        for ring in 0..rings {
             named[ring as usize] = self.answered_at(note, RingNo(ring));
         }
         named
@@ -145,7 +158,29 @@ impl Membership {
         if self.timers.is_empty() {
             return;
         }
-        for ring in 0..2 * self.group.t + 1 {
+        self.end_first(named, 2 * self.group.t + 1, out);
+    }
+
+    /// Ends what is kept on each of so many of the first rings against the member that is named for it. None is named for
+    /// any other ring.
+    fn end_first(
+        &mut self,
+        named: &[Option<MemberId>; MAX_RINGS as usize],
+        rings: u8,
+        out: &mut Changes,
+    )
+        requires room { length out.old.fell + length self.old.kept ≤ ACCUSATIONS }
+        requires few { rings ≤ ring_count self.old.group.t }
+        requires most { rings ≤ MAX_RINGS }
+        requires beyond { (ring : ℕ) → rings ≤ ring → ring < ring_count self.old.group.t
+            → slice_index_or named.now ring None ≡ None }
+        ensures ends { Ends (ring_count self.old.group.t) (is_named named.now) self.old.kept
+            out.old.fell self.new.kept out.new.fell }
+        ensures rest { self.new ≡ record self.old { kept = self.new.kept } }
+        ensures report { out.new ≡ record out.old { fell = out.new.fell } }
+        ensures room { length out.new.fell + length self.new.kept ≤ ACCUSATIONS }
+    {
+        for ring in 0..rings {
             self.end_on(named[ring as usize], RingNo(ring), out);
         }
     }
@@ -158,7 +193,6 @@ impl Membership {
         ensures rest { self.new ≡ record self.old { kept = self.new.kept } }
         ensures report { out.new ≡ record out.old { fell = out.new.fell } }
         ensures room { length out.new.fell + length self.new.kept ≤ ACCUSATIONS }
-        ensures few { ring_count self.old.group.t ≤ MAX_RINGS }
     {
         if self.timers.is_accused(member) {
             self.end_named(&[Some(member); MAX_RINGS as usize], out);

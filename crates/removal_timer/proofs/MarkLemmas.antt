@@ -1,6 +1,7 @@
 -- The marks of the rings on which entries in slots are against a member: once a slot is filled, or emptied.
-use Rattle.std.proofs.Common.{◌≡◌, ◌≢◌, ℕ, zero, suc, ◌+◌, ◌-◌, ◌*◌, ◌^◌, ◌<◌, ◌≤◌, Bool, true, false, cond, ◌||◌, inl, inr, ◌⊎◌, List, [], ◌∷◌, Option, Some, None, IfSome, is_some, find, get_or, length, set, refl, sym, ap, ◌∙◌, arith, get_or-set_same, get_or-set_other}
+use Rattle.std.proofs.Common.{◌≡◌, ◌≢◌, ℕ, zero, suc, ◌+◌, ◌-◌, ◌%◌, ◌^◌, ◌<◌, ◌≤◌, Bool, true, false, cond, eqb, ◌||◌, inl, inr, ◌⊎◌, List, [], ◌∷◌, Option, Some, None, IfSome, is_some, find, get_or, length, set, refl, sym, ap, ◌∙◌, arith, get_or-set_same, get_or-set_other}
 use Rattle.std.specs.List.{list_any}
+use Rattle.std.proofs.Math.Nat.{div-eq_of_lt, pow-le-pow_right}
 use Rattle.std.proofs.lemmas.Bool.{cases_eq, cases_lt}
 use Rattle.ff_ids.specs.declared.TheConstants.{MEMBERS, MAX_RINGS}
 use Rattle.ff_ids.specs.Masks.{bits_where, enables}
@@ -8,6 +9,12 @@ use Rattle.ff_ids.proofs.BitLemmas.{bits-below, bits_same, bits-tell}
 use Rattle.removal_timer.specs.Kept.{is_at, entry_at, entries_in, pair_number, IsOwn}
 use Rattle.removal_timer.specs.Tally.{rings_against}
 use Rattle.removal_timer.proofs.SlotLemmas.{Entry, Slots, entry_at-slot}
+
+-- a mask below a power of two enables no ring from that power on
+pub enables-past : (mask n ring : ℕ) → mask < 2 ^ n → n ≤ ring → enables mask ring ≡ false
+enables-past mask n ring low past =
+    let more : 2 ^ n ≤ 2 ^ ring = pow-le-pow_right {n = 2} (omega arith) {i = n} {j = ring} past in
+    ap (λ (k : ℕ). eqb (k % 2) 1) (div-eq_of_lt {n = mask} {m = 2 ^ ring} (omega (arith, low, more)))
 
 -- each entry is in its own slot
 abbrev pub AreOwn : Slots → Type 0

@@ -349,6 +349,13 @@ impl Timers {
         self.tallies.against.is_any(member)
     }
 
+    /// A ring from which on no accusation against the member stands. No entry is looked at.
+    pub fn rings_against(&self, member: MemberId) -> u8
+        ensures { (ring : ℕ) → result ≤ ring → entry_at member ring self.now.entries ≡ None }
+    {
+        self.tallies.marks.rings(member)
+    }
+
     /// Whether an accusation by the member stands. No entry is looked at.
     pub fn is_accuser(&self, member: MemberId) -> bool
         ensures { result ≡ list_any (is_by member) self.now.entries }

@@ -1,7 +1,7 @@
 //! How many of the accusations that stand are against each member, and how many by each; and on which rings those are that are
 //! against it.
 
-ghost use Rattle.std.specs.Prelude.{◌≡◌, ℕ, ◌+◌, ◌-◌, ◌^◌, ◌<◌, ◌≤◌, [], IfOk, length, nat_lt, slice_index_or, slice_set};
+ghost use Rattle.std.specs.Prelude.{◌≡◌, ℕ, ◌+◌, ◌-◌, ◌^◌, ◌<◌, ◌≤◌, false, [], IfOk, length, nat_lt, slice_index_or, slice_set};
 ghost use Rattle.ff_ids.specs.declared.TheConstants.{MEMBERS, MAX_RINGS};
 ghost use Rattle.ff_ids.specs.Masks.{enables};
 ghost use Rattle.removal_timer.specs.Tally.{one_more, one_less, AreTallied};
@@ -104,6 +104,15 @@ impl Marks {
         ensures range { member < MEMBERS }
     {
         Mask(self.masks[member.get() as usize]).enables(ring)
+    }
+
+    /// A ring from which on the member has no bit.
+    pub fn rings(&self, member: MemberId) -> u8
+        ensures none { (ring : ℕ) → result ≤ ring
+            → enables (slice_index_or self.now member 0) ring ≡ false }
+        ensures range { member < MEMBERS }
+    {
+        (u64::BITS - self.masks[member.get() as usize].leading_zeros()) as u8
     }
 
     /// Sets the bit of the member and the ring, which isn't set.

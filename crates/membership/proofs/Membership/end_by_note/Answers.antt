@@ -32,6 +32,6 @@ returns-in-Stays-clause-ends c = λ theirs.
     let l = c.args.self.now in
     let n = c.args.note.now in
     let ordered = subst (λ (k : Life). IsInOrder (ring_count k.group.t) k.kept) c.self.view_is c.self.invariant.timed.in_order in
-    let named = Ends-each (ring_count l.group.t) c.answered_by-answered.result (answered_on l n) l.kept c.end_named-in-Stays.new.self.kept c.args.out.now.fell c.end_named-in-Stays.new.out.fell c.answered_by-answered.ensures c.end_named-in-Stays.ensures.ends in
-    let ends = Ends-kept (ring_count l.group.t) (λ p. is_number (answered_on l n p.0.ring.0) p.0.accused) (is_answered n) l.kept c.end_named-in-Stays.new.self.kept c.args.out.now.fell c.end_named-in-Stays.new.out.fell (answered-each (ring_count l.group.t) l n ordered) named in
-    subst (λ e. Ends (ring_count l.group.t) (is_ended_by l n e) l.kept c.args.out.now.fell c.end_named-in-Stays.new.self.kept c.end_named-in-Stays.new.out.fell) (sym c.in-Stays.is) ends
+    let named = Ends-each (ring_count l.group.t) c.answered_by-answered.result (answered_on l n) l.kept c.end_first.new.self.kept c.args.out.now.fell c.end_first.new.out.fell c.answered_by-answered.ensures.each c.end_first.ensures.ends in
+    let ends = Ends-kept (ring_count l.group.t) (λ p. is_number (answered_on l n p.0.ring.0) p.0.accused) (is_answered n) l.kept c.end_first.new.self.kept c.args.out.now.fell c.end_first.new.out.fell (answered-each (ring_count l.group.t) l n ordered) named in
+    subst (λ e. Ends (ring_count l.group.t) (is_ended_by l n e) l.kept c.args.out.now.fell c.end_first.new.self.kept c.end_first.new.out.fell) (sym c.in-Stays.is) ends

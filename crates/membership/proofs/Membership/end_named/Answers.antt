@@ -1,39 +1,14 @@
-use Rattle.std.proofs.Common.{◌∙◌, ◌+◌, ◌<◌, ◌≤◌, ◌||◌, ap, sym, subst, None, arith, length, get_or}
-use Rattle.std.proofs.lemmas.List.{get_or_default}
+use Rattle.std.proofs.Common.{◌∙◌, ap, sym, arith}
 use Rattle.ff_ids.specs.Masks.{ring_count}
-use Rattle.ff_ids.specs.Steps.{Report}
 use Rattle.membership.specs.Life.{Life}
-use Rattle.membership.specs.Ends.{Ends, is_on, is_named}
-use Rattle.membership.proofs.EndLemmas.{is_named_below, Ends-agree, Ends-then, Ends-nothing_kept, named_more, named_all}
+use Rattle.membership.specs.Ends.{is_named}
+use Rattle.membership.proofs.EndLemmas.{Ends-nothing_kept}
 use Rattle.membership.proofs.Membership.end_named.Goals as goal
 
-pub loop-ring-preserved : goal.loop-ring-preserved
-loop-ring-preserved c =
-    let rings = ring_count c.args.self.now.group.t in
-    let named = c.args.named.now in
-    let k = c.loop-ring.ring in
-    let before = c.loop-ring.invariant in
-    let same = ap (λ (l : Life). ring_count l.group.t) before.life in
-    let few = ap (λ (l : Life). l.group.t) c.self.view_is in
-    let below : k < length named = omega (arith, c.loop-ring-test.true, c.type_inv.named, c.self.invariant.sound.tolerance) in
-    let item = get_or_default named k c.index-named-ring.result None below in
-    let on = subst (λ o. Ends rings (is_on o k) c.loop-ring.self.kept c.loop-ring.out.fell c.end_on.new.self.kept c.end_on.new.out.fell) item (subst (λ r. Ends r (is_on (get_or named k c.index-named-ring.result) k) c.loop-ring.self.kept c.loop-ring.out.fell c.end_on.new.self.kept c.end_on.new.out.fell) same c.end_on.ensures.ends) in
-    let both = Ends-then rings (is_named_below k named) (is_on (get_or named k None) k) c.args.self.now.kept c.loop-ring.self.kept c.end_on.new.self.kept c.args.out.now.fell c.loop-ring.out.fell c.end_on.new.out.fell before.ends on in
-    record {
-      ends = Ends-agree rings (λ p. is_named_below k named p || is_on (get_or named k None) k p) (is_named_below (k + 1) named) c.args.self.now.kept c.end_on.new.self.kept c.args.out.now.fell c.end_on.new.out.fell (λ p _. named_more named k p) both;
-      life = c.end_on.ensures.rest ∙ ap (λ (l : Life). record l { kept = c.end_on.new.self.kept }) before.life;
-      report = c.end_on.ensures.report ∙ ap (λ (r : Report). record r { fell = c.end_on.new.out.fell }) before.report;
-      room = c.end_on.ensures.room;
-    }
+pub end_first-requires-clause-beyond : goal.end_first-requires-clause-beyond
+end_first-requires-clause-beyond c = λ ring past below. absurd (omega (arith, past, below, ap (λ (l : Life). l.group.t) c.self.view_is, ap (λ (l : Life). l.group.t) c.end_first.view_is))
 
 pub returns-then-is_empty-clause-ends : goal.returns-then-is_empty-clause-ends
 returns-then-is_empty-clause-ends c =
     let none = sym (ap (λ (l : Life). l.kept) c.self.view_is) ∙ c.if-is_empty.ensures.empty in
     Ends-nothing_kept (ring_count c.args.self.now.group.t) (is_named c.args.named.now) c.args.self.now.kept c.args.out.now.fell none
-
-pub returns-clause-ends : goal.returns-clause-ends
-returns-clause-ends c =
-    let rings = ring_count c.args.self.now.group.t in
-    let same = ap (λ (l : Life). l.group.t) c.self.view_is in
-    let all : rings ≤ c.loop-ring.ring = omega (arith, c.loop-ring-test.false, same) in
-    Ends-agree rings (is_named_below c.loop-ring.ring c.args.named.now) (is_named c.args.named.now) c.args.self.now.kept c.loop-ring.self.kept c.args.out.now.fell c.loop-ring.out.fell (λ p below. named_all c.args.named.now c.loop-ring.ring p (omega (arith, below, all))) c.loop-ring.invariant.ends

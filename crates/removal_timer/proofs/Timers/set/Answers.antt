@@ -5,7 +5,7 @@ use Rattle.removal_timer.specs.Kept.{Kept, IsOwn, entries_in}
 use Rattle.removal_timer.specs.Tally.{is_against, is_by, AreTallied}
 use Rattle.removal_timer.proofs.SlotLemmas.{Entry}
 use Rattle.removal_timer.proofs.TallyLemmas.{count-few, AreTallied-more}
-use Rattle.removal_timer.proofs.MarkLemmas.{AreOwn, marks-room}
+use Rattle.removal_timer.proofs.MarkLemmas.{marks-room}
 use Rattle.removal_timer.proofs.HeldLemmas.{IsSet, IsSet-of, IsReached-of}
 use Rattle.removal_timer.proofs.Timers.set.Goals as goal
 

@@ -3,7 +3,7 @@ use Rattle.ff_ids.specs.declared.TheConstants.{MAX_ACCUSATIONS}
 use Rattle.ff_ids.specs.Masks.{ring_count}
 use Rattle.membership.specs.Ends.{Ends}
 use Rattle.membership.proofs.EndLemmas.{is_named_below}
-use Rattle.membership.proofs.Membership.end_named.Given as goal
+use Rattle.membership.proofs.Membership.end_first.Given as goal
 
 abbrev pub invariant-loop-ring : goal.invariant-loop-ring
 invariant-loop-ring l =
