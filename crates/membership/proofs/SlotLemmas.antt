@@ -1,9 +1,9 @@
 -- The map that slots by number stand for.
-use Rattle.std.proofs.Common.{◌≡◌, ◌≢◌, ℕ, zero, suc, ◌+◌, ◌<◌, Bool, true, false, cond, eqb, List, [], ◌∷◌, length, get_or, Option, Some, None, refl, ap, sym, ◌∙◌, arith, get_or-set_same, get_or-set_other, zero-add, ◌⊎◌, ⊎_elim, inl, inr}
+use Rattle.std.proofs.Common.{◌≡◌, ◌≢◌, ℕ, zero, suc, ◌+◌, ◌<◌, Bool, true, false, cond, eqb, List, [], ◌∷◌, ◌++◌, length, get_or, Option, Some, None, refl, ap, sym, ◌∙◌, arith, get_or-set_same, get_or-set_other, zero-add, ◌⊎◌, ⊎_elim, inl, inr}
 use Rattle.std.specs.Prelude.{slice_set}
 use Rattle.std.specs.Ordering.{nat_cmp, eq_by_cmp}
 use Rattle.std.specs.Cmp.{nat_cmp_total}
-use Rattle.std.specs.FinMap.{FinMap, get, insert, empty, from_entries, find, same_map, get-insert, get-empty, get-from_entries, nat_cmp-IsAntisymmetric}
+use Rattle.std.specs.FinMap.{FinMap, get, insert, from_entries, find, same_map, get-insert, get-from_entries, nat_cmp-IsAntisymmetric}
 use Rattle.std.proofs.lemmas.Bool.{eqb-true, eqb-false}
 use Rattle.std.proofs.lemmas.Bool.Decides.{nat_tests}
 use Rattle.membership.specs.Slots.{taken_from}
@@ -51,12 +51,8 @@ pub map_of-set : {X : Type 0} (slots : List (Option X)) (m : ℕ) (x : X) → m 
 map_of-set slots m x below =
     same_map nat_cmp_total nat_cmp-IsAntisymmetric _ _ (λ q. get-map_of (slice_set slots m (Some x)) q ∙ set_same slots m q x below ∙ ap (cond (eq_by_cmp nat_cmp q m) (Some x)) (sym (get-map_of slots q)) ∙ sym (get-insert nat_cmp_total (map_of slots) m x q))
 
--- no slot is written yet
-pub map_of-none : {X : Type 0} (slots : List (Option X)) → ((k : ℕ) → k < length slots → get_or slots k None ≡ None) → map_of slots ≡ empty
-map_of-none slots none =
-    same_map nat_cmp_total nat_cmp-IsAntisymmetric _ _ (λ q. get-map_of slots q ∙ everywhere slots q none ∙ sym (get-empty nat_cmp q))
-  where
-    everywhere : {X : Type 0} (slots : List (Option X)) (k : ℕ) → ((k : ℕ) → k < length slots → get_or slots k None ≡ None) → get_or slots k None ≡ None
-    everywhere [] k none = refl
-    everywhere (x ∷ slots) zero none = none 0 (omega arith)
-    everywhere (x ∷ slots) (suc k) none = everywhere slots k (λ j below. none (suc j) (omega (arith, below)))
+-- an empty slot at the end has no entry
+pub taken-push : {X : Type 0} (a : ℕ) (slots : List (Option X)) → taken_from a (slots ++ None ∷ []) ≡ taken_from a slots
+taken-push a [] = refl
+taken-push a (None ∷ slots) = taken-push (a + 1) slots
+taken-push a (Some x ∷ slots) = ap (λ xs. (a, x) ∷ xs) (taken-push (a + 1) slots)

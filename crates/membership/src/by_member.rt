@@ -1,9 +1,10 @@
 //! A value for each member that has one, as a finite map by number.
 
-ghost use Rattle.std.specs.Prelude.{◌≡◌, ◌<◌, IfOk, is_some};
+ghost use Rattle.std.specs.Prelude.{◌≡◌, ◌<◌, ◌≤◌, IfOk, is_some, length, vec_capacity};
 ghost use Rattle.std.specs.Option.{option_copied};
 ghost use Rattle.std.specs.FinMap as map;
 ghost use Rattle.ff_ids.specs.declared.TheConstants.{MEMBERS};
+ghost use Rattle.membership.specs.Slots.{taken_from};
 
 use ff_ids::{MEMBERS, MemberId};
 use std::alloc::{AllocError, Global};
@@ -13,11 +14,12 @@ use std::marker::Model;
 /// to values.
 #[derive(Drop)]
 pub struct ByMember<T> {
+    /// By number, up to the greatest that had a value: the memory of greater ones stays untouched.
     slots: Vec<Option<T>>,
 }
 
 impl<T> Model for ByMember<T> {
-    ghost use Rattle.std.specs.Prelude.{◌≡◌, length};
+    ghost use Rattle.std.specs.Prelude.{◌≤◌, length, vec_capacity};
     ghost use Rattle.std.specs.Ordering.{nat_cmp};
     ghost use Rattle.std.specs.FinMap as map;
     ghost use Rattle.std.specs.Coded.{coded_ℕ};
@@ -30,7 +32,23 @@ impl<T> Model for ByMember<T> {
 
     ghost view = { λ b. map.from_entries (taken_from 0 b.slots.items) };
 
-    ghost invariant = { λ b. length b.slots.items ≡ MEMBERS };
+    ghost invariant = { λ b. (length b.slots.items ≤ MEMBERS)
+        × (MEMBERS ≤ vec_capacity b.slots) };
+}
+
+/// Makes the slots reach this one, for which they have room. Those that are new are empty.
+fn reach<T: Drop>(slots: &mut Vec<Option<T>>, index: usize)
+    requires within { index < MEMBERS }
+    requires few { length slots.old.items ≤ MEMBERS }
+    requires room { MEMBERS ≤ vec_capacity slots.old }
+    ensures reached { index < length slots.new.items }
+    ensures few { length slots.new.items ≤ MEMBERS }
+    ensures room { MEMBERS ≤ vec_capacity slots.new }
+    ensures same { taken_from 0 slots.new.items ≡ taken_from 0 slots.old.items }
+{
+    'growing: while slots.len() <= index {
+        slots.push_reserved(None);
+    }
 }
 
 impl<T: Drop> ByMember<T> {
@@ -38,25 +56,28 @@ impl<T: Drop> ByMember<T> {
     pub fn new(alloc: Global) -> Result<ByMember<T>, AllocError>
         ensures { IfOk result (λ b. b ≡ map.empty) }
     {
-        let mut slots = Vec::with_capacity(alloc, MEMBERS as usize)?;
-        for _number in 0..MEMBERS {
-            slots.push_reserved(None);
-        }
-        Ok(ByMember { slots })
+        Ok(ByMember {
+            slots: Vec::with_capacity(alloc, MEMBERS as usize)?,
+        })
     }
 
     /// The value of the member.
     pub fn get(&self, member: MemberId) -> Option<&T>
         ensures { option_copied result ≡ map.get self.now member }
     {
-        self.slots[member.get() as usize].as_ref()
+        let index = member.get() as usize;
+        if index < self.slots.len() {
+            self.slots[index].as_ref()
+        } else {
+            None
+        }
     }
 
     /// Whether the member has a value.
     pub fn contains(&self, member: MemberId) -> bool
         ensures { result ≡ map.contains_key self.now member }
     {
-        self.slots[member.get() as usize].is_some()
+        self.get(member).is_some()
     }
 
     /// Gives the member this value, in place of any that it has.
@@ -64,15 +85,15 @@ impl<T: Drop> ByMember<T> {
         ensures value { self.new ≡ map.insert self.old member value }
         ensures range { member < MEMBERS }
     {
-        self.slots[member.get() as usize] = Some(value);
+        let index = member.get() as usize;
+        reach(&mut self.slots, index);
+        self.slots[index] = Some(value);
     }
 
     /// Takes away each value.
     pub fn clear(&mut self)
         ensures { self.new ≡ map.empty }
     {
-        for index in 0..self.slots.len() {
-            self.slots[index] = None;
-        }
+        self.slots.clear();
     }
 }
