@@ -167,6 +167,7 @@ fn is_plain(place: &[u8; 32]) -> bool
 /// The hint of a place that no number stands for. It says nothing.
 const NO_HINT: u32 = u32::MAX;
 
+// Apart: places that no number stands for are rare, and the common path stays short.
 #[cold]
 #[inline(never)]
 fn hint_of(place: &[u8; 32]) -> u32

@@ -41,6 +41,7 @@ impl Model for Rank {
 }
 
 impl Rank {
+    /// The rank of a member with this hint of its place and this number.
     #[inline]
     pub fn new(hint: u32, number: MemberId) -> Rank
         ensures { result ≡ record { hint = hint; number = number } }
@@ -50,18 +51,12 @@ impl Rank {
         }
     }
 
+    /// The hint of the member's place.
     #[inline]
     pub fn hint(self) -> u32
         ensures { result ≡ self.hint }
     {
         (self.bits / NUMBERS) as u32
-    }
-
-    #[inline]
-    pub fn number(self) -> MemberId
-        ensures { result ≡ self.number }
-    {
-        MemberId::new((self.bits % NUMBERS) as u16)
     }
 
     /// 1 where this member comes before the other one, and else 0. It counts one step. The answer is a difference and no
