@@ -1,5 +1,5 @@
 -- How one turn of the loop follows those before it.
-use Rattle.std.proofs.Common.{ℕ, inr, List, [], ◌∷◌, ◌++◌, take, Option, Some, None, refl, ap, sym, ◌∙◌, subst, append_assoc, arith, length-append}
+use Rattle.std.proofs.Common.{ℕ, inr, List, [], ◌∷◌, ◌++◌, take, Option, Some, None, Result, Ok, Err, refl, ap, sym, ◌∙◌, subst, append_assoc, arith, length-append}
 use Rattle.std.specs.Io.KnownBytes.{Appends, Consumes}
 use Rattle.std.proofs.KnownBytes.{Appends-nil, Appends-trans, Consumes-nil, Consumes-trans}
 use Rattle.ports.specs.Count.{next_count}
@@ -8,7 +8,7 @@ use Rattle.text_trace.proofs.TraceLemmas.{steps-none, steps-join, ends-join, ref
 use Rattle.text_trace.proofs.WholeLemmas.{whole-none, whole-join}
 use Rattle.play.specs.declared.stop.Stop.{Stop}
 use Rattle.play.specs.declared.stop.Stop.TheVariants as stop
-use Rattle.play.specs.Plays.{ConsumedLines, Finished, Follows, IoState, IsAdmitted, Lines, Refused, Starved, Stops, StopsRun, Unfailed, Unread, Unwritten, Advanced, bytes_of}
+use Rattle.play.specs.Plays.{ConsumedLines, Continues, Finished, Follows, IoState, IsAdmitted, Lines, Refused, Runs, Starved, Stops, StopsRun, Unfailed, Unread, Unwritten, Advanced, bytes_of}
 
 -- something is still owed
 pub owing-later : (C : Type 0) (A B : Continuation C → Type 0) (first next room later : ℕ) (was now : IoState) → Owing C A → Advanced C A B first next room later was now → Owing C B
@@ -20,8 +20,8 @@ unfailed-join : (was mid now : IoState) → Unfailed was mid → Unfailed mid no
 unfailed-join was mid now a b = record { reads = b.reads ∙ a.reads; writes = b.writes ∙ a.writes }
 
 -- no line was taken yet
-pub went-none : (C : Type 0) (A : Continuation C → Type 0) (room : ℕ) (was : IoState) → Advanced C A A 1 1 room room was was
-went-none C A room was = record {
+pub went-none : (C : Type 0) (A : Continuation C → Type 0) (first room : ℕ) (was : IoState) → Advanced C A A first first room room was was
+went-none C A first room was = record {
   lines = [];
   bytes = [];
   text = [];
@@ -162,6 +162,20 @@ run-stops C P A room was now (stop.Refused line cause) stops = stops
 run-stops C P A room was now stop.ReadFault stops = stops
 run-stops C P A room was now stop.WriteFault stops = stops
 run-stops C P A room was now stop.OutOfMemory stops = inr stops
+
+-- a run from the first line on
+pub run-from : (C : Type 0) (P : C → Type 0) (A : Continuation C → Type 0) (room : ℕ) (was now : IoState) (r : Result (Unit {0}) (Stop C)) → Continues C P A 1 room was now r → Runs C P A room was now r
+run-from C P A room was now (Ok done) on = on
+run-from C P A room was now (Err s) on = run-stops C P A room was now s on
+
+-- some lines, and then the others
+pub continues-join : (C : Type 0) (P : C → Type 0) (A B : Continuation C → Type 0) (first next room later : ℕ) (was then now : IoState) (r : Result (Unit {0}) (Stop C)) → Advanced C A B first next room later was then → Continues C P B next later then now r → Continues C P A first room was now r
+continues-join C P A B first next room later was then now (Ok done) a b = finished-join C A B first next room later was then now a b
+continues-join C P A B first next room later was then now (Err s) a b = stops-join C P A B first next room later was then now s a b
+
+-- a whole run, of which some lines were played first
+pub run-join : (C : Type 0) (P : C → Type 0) (A B : Continuation C → Type 0) (next room later : ℕ) (was then now : IoState) (r : Result (Unit {0}) (Stop C)) → Advanced C A B 1 next room later was then → Continues C P B next later then now r → Runs C P A room was now r
+run-join C P A B next room later was then now r a b = run-from C P A room was now r (continues-join C P A B 1 next room later was then now r a b)
 
 -- no line was taken yet, and nothing learned
 pub came-none : (Reaches : List (List ℕ) → Type 0) (room : ℕ) (left : Option (List ℕ)) → Reaches [] → ConsumedLines Reaches room room left left

@@ -1,3 +1,4 @@
 pub mod TurnLemmas
 pub mod JoinLemmas
 pub mod RunLemmas
+pub mod NamedLemmas

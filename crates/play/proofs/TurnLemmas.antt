@@ -1,5 +1,5 @@
 -- How one turn of the loop may end.
-use Rattle.std.proofs.Common.{◌≡◌, ℕ, ◌+◌, ◌<◌, inl, inr, true, List, [], ◌∷◌, length, Option, Some, None, refl, ap, subst, arith, length-append}
+use Rattle.std.proofs.Common.{◌≡◌, ℕ, ◌+◌, ◌<◌, inl, inr, true, List, [], ◌∷◌, length, Option, Some, None, Ok, refl, ap, subst, arith, length-append}
 use Rattle.std.specs.Io.KnownBytes.{Appends, Consumes}
 use Rattle.ports.specs.Contents.{IsUsedUp, TookFront}
 use Rattle.ports.specs.Count.{next_count}
@@ -9,7 +9,7 @@ use Rattle.text_trace.proofs.TraceLemmas.{steps-none, steps-weaker}
 use Rattle.text_trace.proofs.WholeLemmas.{whole-none, whole-one, feed_apart}
 use Rattle.ports.specs.declared.Ending.{Ending}
 use Rattle.ports.specs.declared.Ending.TheVariants as ending
-use Rattle.ports.specs.LineReading.{EndsBy, ReadsWhole, ReadsPart}
+use Rattle.ports.specs.LineReading.{EndsBy, ReadsWhole, ReadsPart, is_going}
 use Rattle.play.specs.Plays.{ConsumedLines, Finished, IoState, IsLast, Lines, Refused, Starved, Unfailed, Unread, Unwritten, Advanced}
 
 no-bytes : (line : List ℕ) → length line ≡ 0 → line ≡ []
@@ -41,6 +41,12 @@ pub is-fed : (by : Ending) (line : List ℕ) (left : Option (List ℕ)) → Ends
 is-fed ending.Feed line left e fed = e
 is-fed ending.Limit line left e fed = absurd (feed_apart line e.clear fed)
 is-fed ending.Input line left e fed = absurd (feed_apart line e.clear fed)
+
+-- behind a line that ends with a line feed more may be read
+pub still-going : (by : Ending) (line : List ℕ) (left : Option (List ℕ)) → EndsBy by line left → has_line_feed line ≡ true → is_going (Ok by) ≡ true
+still-going ending.Feed line left e fed = refl
+still-going ending.Limit line left e fed = refl
+still-going ending.Input line left e fed = absurd (feed_apart line e.clear fed)
 
 -- a line was taken, and its trace was written
 pub went-one : (C : Type 0) (A B : Continuation C → Type 0) (first room later : ℕ) (was now : IoState) (line text : List ℕ) (by : Ending) → ReadsWhole was.left now.left line by → has_line_feed line ≡ true → Steps C A B (line ∷ []) text → Appends was.taken now.taken text → later < room → Unfailed was now → Advanced C A B first (first + 1) room later was now

@@ -164,7 +164,12 @@ Stops C P A first room was now stop.ReadFault = Unread C A room was now
 Stops C P A first room was now stop.WriteFault = Unwritten C A room was now
 Stops C P A first room was now stop.OutOfMemory = Starved C P A room was now
 
--- The same of a whole run, which may be refused memory before it takes or writes anything.
+-- How a run went on that owed what A says and had so many lines to come, the first of this number, by its answer.
+abbrev pub Continues : (C : Type 0) → (C → Type 0) → (Continuation C → Type 0) → ℕ → ℕ → IoState → IoState → Result (Unit {0}) (Stop C) → Type 0
+Continues C P A first room was now (Ok _) = Finished C A room was now
+Continues C P A first room was now (Err s) = Stops C P A first room was now s
+
+-- How a whole run stopped, which may be refused memory before it takes or writes anything.
 abbrev pub StopsRun : (C : Type 0) → (C → Type 0) → (Continuation C → Type 0) → ℕ → IoState → IoState → Stop C → Type 0
 StopsRun C P A room was now stop.OutOfMemory = (now ≡ was) ⊎ Starved C P A room was now
 StopsRun C P A room was now s = Stops C P A 1 room was now s

@@ -2,10 +2,12 @@
 //! makes of it, and then takes the next. Each command that reads a text runs it, with a script of its own.
 #![tactic(auto)]
 
+mod buffers;
 mod player;
 mod script;
 mod stop;
 
-pub use player::play;
+pub use buffers::Buffers;
+pub use player::{play, play_line, play_on};
 pub use script::{Refusal, Script};
 pub use stop::Stop;

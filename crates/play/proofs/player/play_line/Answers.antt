@@ -1,9 +1,9 @@
-use Rattle.std.proofs.Common.{ℕ, List, refl, subst, rules}
+use Rattle.std.proofs.Common.{ℕ, List, refl, subst, rules, ◌∙◌}
 use Rattle.std.specs.Io.KnownBytes.{Appends}
 use Rattle.std.proofs.KnownBytes.{Appends-nil}
 use Rattle.ports.specs.Contents.{TookFront}
-use Rattle.play.proofs.TurnLemmas.{came-one, came-end, ended-here, went-one, finished-here, refused-line, refused-end, unread-here, unwritten-line, unwritten-end, starved-line, starved-end}
-use Rattle.play.proofs.player.turn.Goals as goal
+use Rattle.play.proofs.TurnLemmas.{came-one, came-end, ended-here, went-one, finished-here, refused-line, refused-end, unread-here, unwritten-line, unwritten-end, starved-line, starved-end, still-going}
+use Rattle.play.proofs.player.play_line.Goals as goal
 
 pub returns-in-Err-clause-turns : goal.returns-in-Err-clause-turns
 returns-in-Err-clause-turns g c =
@@ -64,3 +64,8 @@ returns-in-Ok-write_all-2-clause-came g c =
     let answered = rw c.deref-2.ensures.value at c.in-Ok-line.ensures.line in
     let reached = rw c.deref-2.ensures.value at c.in-Ok-line.ensures.reaches in
     came-one _ _ _ _ _ c.read_line.new.line.items c.in-Ok.field-0 c.in-Ok.ensures.reads answered.0 c.in-Ok-line.ensures.room reached
+
+pub returns-in-Ok-write_all-2-clause-source : goal.returns-in-Ok-write_all-2-clause-source
+returns-in-Ok-write_all-2-clause-source g c = λ _.
+    let answered = rw c.deref-2.ensures.value at c.in-Ok-line.ensures.line in
+    c.in-Ok.ensures.going ∙ still-going c.in-Ok.field-0 c.read_line.new.line.items _ c.in-Ok.ensures.reads.ends answered.0
