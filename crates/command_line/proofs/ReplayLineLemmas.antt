@@ -1,12 +1,14 @@
 -- What a line does to what is owed, in either form.
-use Rattle.std.proofs.Common.{◌≡◌, ℕ, List, [], ◌∷◌, Option, Some, None, Result, Ok, Err, refl, ap, sym, ◌∙◌}
-use Rattle.std.specs.Option.{option_map}
+use Rattle.std.proofs.Common.{◌≡◌, ℕ, List, [], ◌∷◌, Option, Some, None, Result, Ok, Err, ap, ◌∙◌}
 use Rattle.std.specs.Str.{bytes_eq}
 use Rattle.line_text.specs.declared.bad_word.BadWord.{BadWord}
 use Rattle.line_text.specs.declared.bad_word.BadWord.TheVariants as bad
 use Rattle.play.specs.declared.script.Refusal.{Refusal}
 use Rattle.play.specs.declared.script.Refusal.TheVariants as refusal
+use Rattle.play.specs.declared.stop.Stop.{Stop}
 use Rattle.play.specs.Answers.{AnswersEnd, AnswersLine}
+use Rattle.play.specs.Plays.{Continues, IoState}
+use Rattle.play.proofs.NamedLemmas.{continues-named, end-named, line-named}
 use Rattle.text_trace.specs.Trace.{Every, Continuation, Trace}
 use Rattle.text_trace.proofs.TraceLemmas.{free-as}
 use Rattle.replay.specs.declared.player.Player.{Player}
@@ -15,10 +17,10 @@ use Rattle.world_rules.specs.declared.cause.Cause.{Cause}
 use Rattle.world_rules.specs.declared.cause.Cause.TheVariants as causes
 use Rattle.world_replay.specs.Causes.{IsJudged}
 use Rattle.command_line.specs.declared.replay_form.FormPlayer.{FormPlayer}
-use Rattle.command_line.specs.ReplayAnswers.{for_either}
-use Rattle.command_line.specs.ReplayLaws.{word-of}
+use Rattle.command_line.specs.ReplayAnswers.{for_either, run_for_either}
+use Rattle.command_line.specs.ReplayLaws.{bad-words}
 use Rattle.command_line.specs.ReplayOwing.{OwedByForm, OwedFrom, OwesBad}
-use Rattle.command_line.specs.Replayed.{all_bad, as_bad, replayed, replayed_as, world_header}
+use Rattle.command_line.specs.Replayed.{replayed, replayed_as, world_header}
 
 abbrev cause_of : Trace Cause → Option Cause
 cause_of t = t.cause
@@ -30,29 +32,15 @@ at-lines f g lines same = ap (λ (h : Continuation Cause). h lines) same
 
 -- a line of the direct form
 pub bad-line : (p q : Player) (bytes text : List ℕ) (r : Result (Unit {0}) (Refusal BadWord)) → AnswersLine BadWord Every (OwedBy p) (OwedBy q) bytes text r → AnswersLine Cause IsJudged (OwesBad p) (OwesBad q) bytes text (for_either r)
-bad-line p q bytes text (Ok done) h = (
-  h.0,
-  λ f owes.
-      let s = h.1 owes.owed owes.is in
-      record {
-        later = all_bad s.later;
-        owes = record { owed = s.later; is = s.owes; same = refl };
-        same = λ rest. at-lines f (all_bad owes.owed) (bytes ∷ rest) owes.same ∙ ap as_bad (s.same rest);
-      },
-)
-bad-line p q bytes text (Err (refusal.Refused w)) h = λ f owes rest. at-lines f (all_bad owes.owed) (bytes ∷ rest) owes.same ∙ ap as_bad (h owes.owed owes.is rest)
-bad-line p q bytes text (Err refusal.OutOfMemory) h = (h.0, λ f owes c judged all. free f owes c judged all)
-  where
-    free : (f : Continuation Cause) (owes : OwesBad p f) (c : Cause) → IsJudged c → ((rest : List (List ℕ)) → (f (bytes ∷ rest)).cause ≡ Some c) → ⊥
-    free f owes (causes.Bad w) judged all =
-        h.1 owes.owed owes.is w tt (λ rest. word-of (owes.owed (bytes ∷ rest)).cause w (ap cause_of (at-lines (all_bad owes.owed) f (bytes ∷ rest) (sym owes.same)) ∙ all rest))
-    free f owes (causes.Forged who body) judged all = judged
+bad-line p q bytes text r h = line-named BadWord Cause Every IsJudged causes.Bad (OwedBy p) (OwedBy q) bytes text r bad-words h
 
 -- the end of a text of the direct form
 pub bad-end : (p : Player) (text : List ℕ) (r : Result (Unit {0}) (Refusal BadWord)) → AnswersEnd BadWord Every (OwedBy p) text r → AnswersEnd Cause IsJudged (OwesBad p) text (for_either r)
-bad-end p text (Ok done) h = λ f owes. at-lines f (all_bad owes.owed) [] owes.same ∙ ap as_bad (h owes.owed owes.is)
-bad-end p text (Err (refusal.Refused w)) h = λ f owes. at-lines f (all_bad owes.owed) [] owes.same ∙ ap as_bad (h owes.owed owes.is)
-bad-end p text (Err refusal.OutOfMemory) h = λ f owes. ap cause_of (at-lines f (all_bad owes.owed) [] owes.same) ∙ ap (option_map causes.Bad) (h owes.owed owes.is)
+bad-end p text r h = end-named BadWord Cause Every IsJudged causes.Bad (OwedBy p) text r bad-words h
+
+-- a run over a text of the direct form
+pub bad-run : (p : Player) (first room : ℕ) (was now : IoState) (r : Result (Unit {0}) (Stop BadWord)) → Continues BadWord Every (OwedBy p) first room was now r → Continues Cause IsJudged (OwesBad p) first room was now (run_for_either r)
+bad-run p first room was now r on = continues-named BadWord Cause Every IsJudged causes.Bad (OwedBy p) first room was now r bad-words on
 
 -- ## The first line
 

@@ -1,6 +1,5 @@
 -- Between two lines nothing is owed, whatever form is read.
 use Rattle.std.proofs.Common.{◌≡◌, ℕ, Bool, true, false, List, [], ◌∷◌, Option, Some, None, Result, ap, sym, ◌∙◌}
-use Rattle.std.specs.Option.{option_map}
 use Rattle.std.specs.Str.{bytes_eq}
 use Rattle.line_text.specs.declared.bad_word.BadWord.{BadWord}
 use Rattle.line_text.specs.declared.bad_word.BadWord.TheVariants as bad
@@ -11,7 +10,9 @@ use Rattle.schedule_direct.specs.Grammar as grammar
 use Rattle.schedule_direct.specs.Rows.{is_ended, row_for}
 use Rattle.schedule_world.specs.Grammar.{opening}
 use Rattle.text_trace.specs.Lines.{has_no_feed}
-use Rattle.text_trace.specs.Trace.{Continuation, Waits}
+use Rattle.play.specs.Named.{IsNaming}
+use Rattle.play.proofs.NamedLemmas.{waits-named}
+use Rattle.text_trace.specs.Trace.{Continuation, Every, Waits}
 use Rattle.text_trace.proofs.TraceLemmas.{waits-same}
 use Rattle.trace.specs.Answers.{answer}
 use Rattle.trace.specs.Walk.{from_line, trace_in, walk}
@@ -20,6 +21,7 @@ use Rattle.replay.specs.Playing as direct
 use Rattle.world_rules.specs.Walk.{Lists, no_roster}
 use Rattle.world_rules.specs.declared.cause.Cause.{Cause}
 use Rattle.world_rules.specs.declared.cause.Cause.TheVariants as causes
+use Rattle.world_replay.specs.Causes.{IsJudged}
 use Rattle.world_replay.specs.Owing as world
 use Rattle.world_replay.specs.Unfed as world_form
 use Rattle.command_line.specs.declared.replay_form.FormPlayer.{FormPlayer}
@@ -27,21 +29,9 @@ use Rattle.command_line.specs.declared.replay_form.FormPlayer.TheVariants as for
 use Rattle.command_line.specs.ReplayOwing.{OwedFrom}
 use Rattle.command_line.specs.Replayed.{all_bad, as_bad, replayed, replayed_as, world_header}
 
--- a cause that is a bad word is that of the direct form
-pub word-of : (o : Option BadWord) (w : BadWord) → option_map causes.Bad o ≡ Some (causes.Bad w) → o ≡ Some w
-word-of None w e = cc
-word-of (Some v) w e = cc
-
-bad-unrefused : (owed : Continuation BadWord) → Waits BadWord owed → (c : Cause) → ((lines : List (List ℕ)) → (all_bad owed lines).cause ≡ Some c) → ⊥
-bad-unrefused owed waits (causes.Bad w) all = waits.unrefused w tt (λ lines. word-of (owed lines).cause w (all lines))
-bad-unrefused owed waits (causes.Forged who body) all = never (owed []).cause (all [])
-  where
-    never : (o : Option BadWord) → option_map causes.Bad o ≡ Some (causes.Forged who body) → ⊥
-    never None e = cc
-    never (Some v) e = cc
-
-pub bad-waits : (owed : Continuation BadWord) → Waits BadWord owed → Waits Cause (all_bad owed)
-bad-waits owed waits = record { silent = waits.silent; unrefused = λ c any all. bad-unrefused owed waits c all }
+-- a bad word is named by its cause, which the lines alone tell
+pub bad-words : IsNaming BadWord Cause Every IsJudged causes.Bad
+bad-words = record { apart = λ v w e. cc; judged = λ w judged. tt }
 
 pub silent-as : (of_world : Bool) (line : List ℕ) (rest : List (List ℕ)) → has_no_feed line ≡ true → (replayed_as of_world (line ∷ rest)).output ≡ []
 silent-as true line rest clear = (world_form.played-waits opening (Lists no_roster)).silent line rest clear
@@ -64,5 +54,5 @@ replayed-waits = record {
 
 pub owed_waits : (form : Option FormPlayer) (f : Continuation Cause) → OwedFrom form f → Waits Cause f
 owed_waits None f owes = waits-same Cause f replayed owes replayed-waits
-owed_waits (Some (forms.Direct player)) f owes = waits-same Cause f (all_bad owes.owed) owes.same (bad-waits owes.owed (direct.owed_waits player owes.owed owes.is))
+owed_waits (Some (forms.Direct player)) f owes = waits-same Cause f (all_bad owes.owed) owes.same (waits-named BadWord Cause causes.Bad owes.owed bad-words.apart (direct.owed_waits player owes.owed owes.is))
 owed_waits (Some (forms.World player)) f owes = world.owed_waits player f owes

@@ -3,19 +3,19 @@ use Rattle.std.specs.Prelude.{◌≡◌, ℕ, Option, Some, None}
 use Rattle.line_text.specs.declared.bad_word.BadWord.{BadWord}
 use Rattle.text_trace.specs.Lines.{text_lines}
 use Rattle.text_trace.specs.Trace.{Continuation}
+use Rattle.play.specs.Named.{OwesAs}
 use Rattle.replay.specs.declared.player.Player as players
 use Rattle.replay.specs.Playing as direct
 use Rattle.world_rules.specs.declared.cause.Cause.{Cause}
+use Rattle.world_rules.specs.declared.cause.Cause.TheVariants as causes
 use Rattle.world_replay.specs.Owing as world
 use Rattle.command_line.specs.declared.replay_form.FormPlayer.{FormPlayer}
 use Rattle.command_line.specs.declared.replay_form.FormPlayer.TheVariants as forms
-use Rattle.command_line.specs.Replayed.{all_bad, replayed}
+use Rattle.command_line.specs.Replayed.{replayed}
 
 -- The direct form owes this, for bad words.
-pub record OwesBad (player : players.Player) (f : Continuation Cause) : Type 0 where
-  pub owed : Continuation BadWord
-  pub is : direct.OwedBy player owed
-  pub same : f ≡ all_bad owed
+abbrev pub OwesBad : players.Player → Continuation Cause → Type 0
+OwesBad player = OwesAs BadWord Cause causes.Bad (direct.OwedBy player)
 
 abbrev pub OwedByForm : FormPlayer → Continuation Cause → Type 0
 OwedByForm (forms.Direct player) f = OwesBad player f
