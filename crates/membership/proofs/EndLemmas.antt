@@ -15,8 +15,9 @@ use Rattle.ff_ids.specs.declared.NoteBody.{NoteBody}
 use Rattle.ff_ids.specs.Views.{is_number, is_unanswered_by}
 use Rattle.ff_ids.specs.Steps.{precedes}
 use Rattle.removal_timer.specs.Kept.{is_at, entry_at, IsInOrder}
+use Rattle.removal_timer.specs.Tally.{is_by}
 use Rattle.membership.specs.Life.{Life}
-use Rattle.membership.specs.Ends.{IsAgain, is_of, is_of_any, Entry, Ends, with_fallen, is_on, is_named, is_answered, answered_on}
+use Rattle.membership.specs.Ends.{IsAgain, is_against_next, next_of, is_of, is_of_any, Entry, Ends, with_fallen, is_on, is_named, is_answered, answered_on}
 use Rattle.membership.proofs.NumberLemmas.{filter-filter}
 
 -- ---- facts of each entry
@@ -337,14 +338,49 @@ and_false : (b : Bool) → (b && false) ≡ false
 and_false true = refl
 and_false false = refl
 
-pub named_more : (named : List (Option ℕ)) (k : ℕ) (p : Entry) → (is_named_below k named p || is_on (slice_index_or named k None) k p) ≡ is_named_below (k + 1) named p
-named_more named k p = by_ring (eqb p.0.ring.0 k) refl
+-- one more ring, on which somebody is found
+pub found_more : (found : ℕ → Option ℕ) (k : ℕ) (p : Entry) → ((nat_lt p.0.ring.0 k && is_number (found p.0.ring.0) p.0.accused) || is_on (found k) k p) ≡ (nat_lt p.0.ring.0 (k + 1) && is_number (found p.0.ring.0) p.0.accused)
+found_more found k p = by_ring (eqb p.0.ring.0 k) refl
   where
-    by_ring : (b : Bool) → eqb p.0.ring.0 k ≡ b → (is_named_below k named p || is_on (slice_index_or named k None) k p) ≡ is_named_below (k + 1) named p
+    by_ring : (b : Bool) → eqb p.0.ring.0 k ≡ b → ((nat_lt p.0.ring.0 k && is_number (found p.0.ring.0) p.0.accused) || is_on (found k) k p) ≡ (nat_lt p.0.ring.0 (k + 1) && is_number (found p.0.ring.0) p.0.accused)
     by_ring true t =
         let ends = at_end p.0.ring.0 k t in
-        ap (λ b. (b && is_named named p) || is_on (slice_index_or named k None) k p) ends.0 ∙ ap (λ b. b && is_number (slice_index_or named k None) p.0.accused) t ∙ sym (named_at named k p t) ∙ ap (λ b. b && is_named named p) (sym ends.1)
-    by_ring false t = ap (λ b. is_named_below k named p || (b && is_number (slice_index_or named k None) p.0.accused)) t ∙ or_false (is_named_below k named p) ∙ one_ring p.0.ring.0 k (is_named named p) t
+        let here : is_number (found p.0.ring.0) p.0.accused ≡ is_number (found k) p.0.accused = ap (λ r. is_number (found r) p.0.accused) (eqb-true p.0.ring.0 k t) in
+        ap (λ b. (b && is_number (found p.0.ring.0) p.0.accused) || is_on (found k) k p) ends.0 ∙ ap (λ b. b && is_number (found k) p.0.accused) t ∙ sym here ∙ ap (λ b. b && is_number (found p.0.ring.0) p.0.accused) (sym ends.1)
+    by_ring false t = ap (λ b. (nat_lt p.0.ring.0 k && is_number (found p.0.ring.0) p.0.accused) || (b && is_number (found k) p.0.accused)) t ∙ or_false (nat_lt p.0.ring.0 k && is_number (found p.0.ring.0) p.0.accused) ∙ one_ring p.0.ring.0 k (is_number (found p.0.ring.0) p.0.accused) t
+
+pub named_more : (named : List (Option ℕ)) (k : ℕ) (p : Entry) → (is_named_below k named p || is_on (slice_index_or named k None) k p) ≡ is_named_below (k + 1) named p
+named_more named k p = found_more (λ r. slice_index_or named r None) k p
+
+-- ---- the successors of a member, ring by ring
+
+-- It is against the member, or against its successor on a ring below this one.
+abbrev pub is_of_below : ℕ → Life → ℕ → Entry → Bool
+is_of_below k l m p = eqb m p.0.accused || (nat_lt p.0.ring.0 k && is_against_next l m p)
+
+pub of_none : (l : Life) (m : ℕ) (p : Entry) → eqb p.0.accused m ≡ is_of_below 0 l m p
+of_none l m p =
+    let e : nat_lt p.0.ring.0 0 ≡ false = grind (arith, nat_tests) in
+    swap_eqb p.0.accused m ∙ sym (or_false (eqb m p.0.accused)) ∙ sym (ap (λ b. eqb m p.0.accused || (b && is_against_next l m p)) e)
+
+pub of_more : (l : Life) (m k : ℕ) (p : Entry) → (is_of_below k l m p || is_on (next_of l m k) k p) ≡ is_of_below (k + 1) l m p
+of_more l m k p = sym (or_assoc (eqb m p.0.accused) (nat_lt p.0.ring.0 k && is_against_next l m p) (is_on (next_of l m k) k p)) ∙ ap (λ b. eqb m p.0.accused || b) (found_more (next_of l m) k p)
+
+pub of_all : (l : Life) (m k : ℕ) (p : Entry) → p.0.ring.0 < k → is_of_below k l m p ≡ is_of l m p
+of_all l m k p below =
+    let e : nat_lt p.0.ring.0 k ≡ true = grind (arith, nat_tests) in
+    ap (λ b. eqb m p.0.accused || (b && is_against_next l m p)) e
+
+-- where the successors are accused by the member alone, what is left is by it
+pub of_rest : (l : Life) (m k : ℕ) (p : Entry) → is_of l m p ≡ (eqb m p.0.accused || eqb m p.0.accuser) → is_of l m p ≡ (is_of_below k l m p || is_by m p)
+of_rest l m k p theirs = by_cases (eqb m p.0.accused) (is_against_next l m p) (nat_lt p.0.ring.0 k) (is_by m p) (theirs ∙ ap (λ b. eqb m p.0.accused || b) (swap_eqb m p.0.accuser))
+  where
+    by_cases : (own next below by : Bool) → (own || next) ≡ (own || by) → (own || next) ≡ ((own || (below && next)) || by)
+    by_cases true next below by h = refl
+    by_cases false true true by h = refl
+    by_cases false true false by h = h
+    by_cases false false true by h = h
+    by_cases false false false by h = h
 
 -- at the place of a member
 on_some : (x r : ℕ) (p : Entry) → is_at x r p ≡ is_on (Some x) r p

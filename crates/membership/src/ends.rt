@@ -13,7 +13,7 @@ ghost use Rattle.removal_timer.specs.Kept.{is_at, entry_at, IsInOrder};
 ghost use Rattle.removal_timer.specs.Tally.{is_against};
 
 use crate::Membership;
-use crate::kept::{NoteEffect, successors, successors_of_last};
+use crate::kept::{NoteEffect, successors_of_last};
 use crate::report::Changes;
 use ff_ids::{AccBody, MAX_RINGS, MemberId, NoteBody, RingNo};
 
@@ -46,16 +46,14 @@ impl Membership {
         }
     }
 
-    /// The successor on each ring of a member that has joined.
-    fn next_after(&self, member: MemberId) -> [Option<MemberId>; MAX_RINGS as usize]
-        ensures each { (ring : ℕ) → ring < ring_count self.now.group.t
-            → slice_index_or result ring None
-            ≡ next_of self.now member ring }
-        ensures count { ring_count self.now.group.t ≤ MAX_RINGS }
+    /// The successor on the ring of a member that has joined.
+    fn next_on(&self, member: MemberId, ring: RingNo) -> Option<MemberId>
+        requires { ring.0 < ring_count self.now.group.t }
+        ensures { result ≡ next_of self.now member ring.0 }
     {
         match self.places.get(member) {
-            Some(places) => successors(&self.rings, 2 * self.group.t + 1, member, places),
-            None => [None; MAX_RINGS as usize],
+            Some(places) => self.rings.successor(ring, member, places),
+            None => None,
         }
     }
 
@@ -199,8 +197,8 @@ impl Membership {
         }
     }
 
-    /// Ends what is kept against the member, and against its successors: where it accuses nobody the rings aren't looked at,
-    /// since who is accused is accused by its monitor.
+    /// Ends what is kept against the member, and against its successors: a ring is looked at for as long as it accuses
+    /// anybody, since who is accused is accused by its monitor.
     fn end_of(&mut self, member: MemberId, out: &mut Changes)
         requires { length out.old.fell + length self.old.kept ≤ ACCUSATIONS }
         ensures ends { AreTheirs self.old member self.old.kept → Ends (ring_count self.old.group.t)
@@ -210,9 +208,13 @@ impl Membership {
         ensures room { length out.new.fell + length self.new.kept ≤ ACCUSATIONS }
     {
         self.end_against(member, out);
-        if self.timers.is_accuser(member) {
-            let next = self.next_after(member);
-            self.end_named(&next, out);
+        let rings = 2 * self.group.t + 1;
+        for ring in 0..rings {
+            if !self.timers.is_accuser(member) {
+                return;
+            }
+            let next = self.next_on(member, RingNo(ring));
+            self.end_on(next, RingNo(ring), out);
         }
     }
 

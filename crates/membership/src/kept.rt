@@ -130,27 +130,8 @@ pub fn raise(expired: &mut ByMember<Epoch>, acc: &AccBody)
     expired.set(acc.accused, epoch);
 }
 
-/// The successors of a member on the rings, of which there are so many.
-pub fn successors(
-    rings: &Rings,
-    count: u8,
-    member: MemberId,
-    places: &Places,
-) -> [Option<MemberId>; MAX_RINGS as usize]
-    requires count { count ≡ rings.now.rings }
-    requires few { count ≤ MAX_RINGS }
-    requires placed { length places.now ≡ rings.now.rings }
-    ensures each { (ring : ℕ) → ring < rings.now.rings → slice_index_or result ring None
-        ≡ number_after (keys_on ring rings.now.members) (key_at ring places.now member) }
-{
-    let mut next = [None; MAX_RINGS as usize];
-    for ring in 0..count {
-        next[ring as usize] = rings.successor(RingNo(ring), member, places);
-    }
-    next
-}
-
-/// As `successors`, at few looks for the member that was the last to join the rings.
+/// The successors on the rings, of which there are so many, of the member that was the last to join them: its place is
+/// looked for where that one was put.
 pub fn successors_of_last(
     rings: &Rings,
     count: u8,
