@@ -7,10 +7,7 @@ use Rattle.lms_tree.specs.declared.kind.KeyFault.{KeyFault}
 use Rattle.lms_tree.specs.declared.key.PublicKey.{PublicKey}
 use Rattle.lms_tree.specs.Lms.{tree_of, key_in, key_with}
 use Rattle.lms_tree.proofs.Parts.{length-slice_range}
-
-pub record HasParts (key : PublicKey) : Type 0 where
-  pub id_long : length key.id ≡ 16
-  pub root_long : length key.root ≡ 32
+use Rattle.records.specs.Keys.{HasParts}
 
 abbrev IfKey : Result PublicKey KeyFault → Type 0
 IfKey (Ok key) = HasParts key

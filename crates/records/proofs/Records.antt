@@ -16,11 +16,14 @@ use Rattle.lms_tree.specs.declared.kind.TreeKind.{TreeKind}
 use Rattle.lms_tree.specs.declared.kind.TreeKind.TheVariants.{H5, H10, H15}
 use Rattle.lms_tree.specs.declared.key.PublicKey.{PublicKey}
 use Rattle.lms_tree.specs.Kinds.{type_number}
-use Rattle.lms_tree.specs.Lms.{tree_of, key_bytes}
+use Rattle.lms_tree.specs.Lms.{tree_of, key_bytes as lms_bytes}
 use Rattle.records.specs.declared.CertBody.{CertBody}
 use Rattle.records.specs.declared.Body.{Body}
 use Rattle.records.specs.declared.Body.TheVariants.{Certificate, Note, Accusation}
 use Rattle.records.specs.declared.Record.{Record}
+use Rattle.records.specs.declared.keys.Key.{Key}
+use Rattle.records.specs.declared.keys.Key.TheVariants as keys
+use Rattle.records.specs.Keys.{HasParts, key_bytes}
 use Rattle.records.specs.declared.fault.FormFault.{FormFault}
 use Rattle.records.specs.Spelling.{certificate_bytes, note_fields, note_bytes, accusation_bytes, body_bytes, record_bytes, IsCertificate, IsNote, IsAccusation, IsBody, HasLength, IsRecord}
 use Rattle.records.specs.Grammar.{◌>>=◌, number_at, byte_at, bytes_at, any_number, member_number, nonzero, signature_length, kind_number, wide_mask, key_at, certificate_at, note_by, note_at, wide_note_at, accusation_at, body_of_kind, body_at, signature_at, record_at, GivesRecord, IsGiven}
@@ -164,12 +167,8 @@ accusation_again a good =
 
 -- ---- keys and certificates
 
-record IsKey (k : PublicKey) : Type 0 where
-  pub id_long : length k.id ≡ 16
-  pub root_long : length k.root ≡ 32
-
-key_takes : (r : Reading) (k : PublicKey) (s : Reading) → IsBytes r.left → key_at r ≡ Ok (k, s) → Takes r (key_bytes k) s × IsKey k
-unfolding key_at key_bytes
+key_takes : (r : Reading) (k : PublicKey) (s : Reading) → IsBytes r.left → key_at r ≡ Ok (k, s) → Takes r (lms_bytes k) s × HasParts k
+unfolding key_at lms_bytes
 key_takes r x s fits e =
     let a = bind_ok (number_at w32 tree_of r) (λ t. number_at w32 ots.kind_of t.1 >>= λ k. bytes_at 16 k.1 >>= λ i. bytes_at 32 i.1 >>= λ o. Ok (record { tree = t.0; ots = k.0; id = i.0; root = o.0 }, o.1)) (x, s) e in
     let b = bind_ok (number_at w32 ots.kind_of a.0.1) (λ k. bytes_at 16 k.1 >>= λ i. bytes_at 32 i.1 >>= λ o. Ok (record { tree = a.0.0; ots = k.0; id = i.0; root = o.0 }, o.1)) (x, s) a.2 in
@@ -180,11 +179,11 @@ key_takes r x s fits e =
     let t2 = bytes_take 16 b.0.1 c.0.0 c.0.1 t1.0.fits c.1 in
     let t3 = bytes_take 32 c.0.1 d.0.0 d.0.1 t2.0.fits d.1 in
     let made : PublicKey × Reading = (record { tree = a.0.0; ots = b.0.0; id = c.0.0; root = d.0.0 }, d.0.1) in
-    subst (λ (y : PublicKey × Reading). Takes r (key_bytes y.0) y.1 × IsKey y.0) (ok_is made (x, s) d.2)
+    subst (λ (y : PublicKey × Reading). Takes r (lms_bytes y.0) y.1 × HasParts y.0) (ok_is made (x, s) d.2)
     (Takes-then _ _ _ _ _ (Takes-then _ _ _ _ _ (Takes-then _ _ _ _ _ t0.0 t1.0) t2.0) t3.0, record { id_long = t2.1; root_long = t3.1 })
 
-key_again : (k : PublicKey) → IsKey k → Again key_at k (key_bytes k)
-unfolding key_at key_bytes
+key_again : (k : PublicKey) → HasParts k → Again key_at k (lms_bytes k)
+unfolding key_at lms_bytes
 key_again k good =
     let whole : Again key_at k (to_be_bytes w32 (type_number k.tree) ++ (to_be_bytes w32 (ots.type_number k.ots) ++ (k.id ++ k.root))) =
     then_again (number_at w32 tree_of) (λ t r. number_at w32 ots.kind_of r >>= λ o. bytes_at 16 o.1 >>= λ i. bytes_at 32 i.1 >>= λ b. Ok (record { tree = t; ots = o.0; id = i.0; root = b.0 }, b.1)) k.tree k (to_be_bytes w32 (type_number k.tree)) (to_be_bytes w32 (ots.type_number k.ots) ++ (k.id ++ k.root))
@@ -202,24 +201,34 @@ certificate_fields c = to_be_bytes w16 c.member ++ (to_be_bytes w16 c.port ++ ke
 certificate_takes : (r : Reading) (c : CertBody) (s : Reading) → IsBytes r.left → certificate_at r ≡ Ok (c, s) → Takes r (certificate_fields c) s × IsCertificate c
 unfolding certificate_at certificate_fields
 certificate_takes r x s fits e =
-    let a = bind_ok (number_at w16 member_number r) (λ m. number_at w16 nonzero m.1 >>= λ p. key_at p.1 >>= λ k. Ok (record { member = m.0; port = p.0; key = k.0 }, k.1)) (x, s) e in
-    let b = bind_ok (number_at w16 nonzero a.0.1) (λ p. key_at p.1 >>= λ k. Ok (record { member = a.0.0; port = p.0; key = k.0 }, k.1)) (x, s) a.2 in
-    let c = bind_ok (key_at b.0.1) (λ k. Ok (record { member = a.0.0; port = b.0.0; key = k.0 }, k.1)) (x, s) b.2 in
+    let a = bind_ok (number_at w16 member_number r) (λ m. number_at w16 nonzero m.1 >>= λ p. key_at p.1 >>= λ k. Ok (record { member = m.0; port = p.0; key = keys.Lms k.0 }, k.1)) (x, s) e in
+    let b = bind_ok (number_at w16 nonzero a.0.1) (λ p. key_at p.1 >>= λ k. Ok (record { member = a.0.0; port = p.0; key = keys.Lms k.0 }, k.1)) (x, s) a.2 in
+    let c = bind_ok (key_at b.0.1) (λ k. Ok (record { member = a.0.0; port = b.0.0; key = keys.Lms k.0 }, k.1)) (x, s) b.2 in
     let t0 = number_takes w16 (2 ^ 16) member_number (λ n. n) _ r a.0.0 a.0.1 wide16 (within_rule (2 ^ 16) 0 LAST_MEMBER (lit< tt)) fits a.1 in
     let t1 = number_takes w16 (2 ^ 16) nonzero (λ n. n) _ a.0.1 b.0.0 b.0.1 wide16 (nonzero_rule (2 ^ 16)) t0.0.fits b.1 in
     let t2 = key_takes b.0.1 c.0.0 c.0.1 t1.0.fits c.1 in
-    let made : CertBody × Reading = (record { member = a.0.0; port = b.0.0; key = c.0.0 }, c.0.1) in
+    let made : CertBody × Reading = (record { member = a.0.0; port = b.0.0; key = keys.Lms c.0.0 }, c.0.1) in
     subst (λ (y : CertBody × Reading). Takes r (certificate_fields y.0) y.1 × IsCertificate y.0) (ok_is made (x, s) c.2)
-    (Takes-then _ _ _ _ _ t0.0 (Takes-then _ _ _ _ _ t1.0 t2.0), record { member_number = omega (arith, t0.1); has_port = t1.1.0; port_fits = t1.1.1; id_long = t2.1.id_long; root_long = t2.1.root_long })
+    (Takes-then _ _ _ _ _ t0.0 (Takes-then _ _ _ _ _ t1.0 t2.0), record { member_number = omega (arith, t0.1); has_port = t1.1.0; port_fits = t1.1.1; key = t2.1 })
+
+abbrev certificate_of : ℕ → ℕ → Key → CertBody
+certificate_of m p key = record { member = m; port = p; key = key }
+
+lms_certificate_again : (m p : ℕ) (key : PublicKey) → IsCertificate (certificate_of m p (keys.Lms key)) → Again certificate_at (certificate_of m p (keys.Lms key)) (certificate_fields (certificate_of m p (keys.Lms key)))
+unfolding certificate_at certificate_fields
+lms_certificate_again m p key good =
+    let c = certificate_of m p (keys.Lms key) in
+    then_again (number_at w16 member_number) (λ m r. number_at w16 nonzero r >>= λ p. key_at p.1 >>= λ k. Ok (certificate_of m p.0 (keys.Lms k.0), k.1)) m c _ _
+    (number_again w16 (2 ^ 16) member_number (λ n. n) _ m wide16 (within_rule (2 ^ 16) 0 LAST_MEMBER (lit< tt)) (omega arith, omega (arith, good.member_number)))
+    (then_again (number_at w16 nonzero) (λ p r. key_at r >>= λ k. Ok (certificate_of m p (keys.Lms k.0), k.1)) p c _ _
+    (number_again w16 (2 ^ 16) nonzero (λ n. n) _ p wide16 (nonzero_rule (2 ^ 16)) (good.has_port, good.port_fits))
+    (map_again key_at (λ k. certificate_of m p (keys.Lms k)) key _ (key_again key good.key)))
+
+keyed_certificate_again : (m p : ℕ) (key : Key) → IsCertificate (certificate_of m p key) → Again certificate_at (certificate_of m p key) (certificate_fields (certificate_of m p key))
+keyed_certificate_again m p (keys.Lms key) good = lms_certificate_again m p key good
 
 certificate_again : (c : CertBody) → IsCertificate c → Again certificate_at c (certificate_fields c)
-unfolding certificate_at certificate_fields
-certificate_again c good =
-    then_again (number_at w16 member_number) (λ m r. number_at w16 nonzero r >>= λ p. key_at p.1 >>= λ k. Ok (record { member = m; port = p.0; key = k.0 }, k.1)) c.member c _ _
-    (number_again w16 (2 ^ 16) member_number (λ n. n) _ c.member wide16 (within_rule (2 ^ 16) 0 LAST_MEMBER (lit< tt)) (omega arith, omega (arith, good.member_number)))
-    (then_again (number_at w16 nonzero) (λ p r. key_at r >>= λ k. Ok (record { member = c.member; port = p; key = k.0 }, k.1)) c.port c _ _
-    (number_again w16 (2 ^ 16) nonzero (λ n. n) _ c.port wide16 (nonzero_rule (2 ^ 16)) (good.has_port, good.port_fits))
-    (map_again key_at (λ k. record { member = c.member; port = c.port; key = k }) c.key _ (key_again c.key (record { id_long = good.id_long; root_long = good.root_long }))))
+certificate_again c good = keyed_certificate_again c.member c.port c.key good
 
 -- ---- bodies
 

@@ -5,6 +5,7 @@ use Rattle.fields.specs.Reading.{Reading, reading_of}
 use Rattle.lms_ots.specs.declared.kind.OtsKind.TheVariants.{W8}
 use Rattle.lms_tree.specs.declared.kind.TreeKind.TheVariants.{H5}
 use Rattle.lms_tree.specs.Lms.{key_bytes}
+use Rattle.records.specs.declared.keys.Key.TheVariants as keys
 use Rattle.records.specs.declared.Body.TheVariants.{Certificate, Note, Accusation}
 use Rattle.records.specs.declared.Record.{Record}
 use Rattle.records.specs.Spelling.{certificate_bytes, note_bytes, accusation_bytes, body_bytes}
@@ -28,7 +29,7 @@ certificate = 1 ∷ 0 ∷ 2 ∷ 78 ∷ 34 ∷ 0 ∷ 0 ∷ 0 ∷ 5 ∷ 0 ∷ 0 �
 
 bodies : (body_bytes (Note (record { member = 2; epoch = 1; mask = record { 0 = 7 } })) ≡ note)
     × (body_bytes (Accusation (record { accuser = 1; accused = 2; epoch = 1; ring = record { 0 = 0 } })) ≡ accusation)
-    × (body_bytes (Certificate (record { member = 2; port = 20002; key = record { tree = H5; ots = W8; id = replicate 16 7; root = replicate 32 9 } })) ≡ certificate)
+    × (body_bytes (Certificate (record { member = 2; port = 20002; key = keys.Lms (record { tree = H5; ots = W8; id = replicate 16 7; root = replicate 32 9 }) })) ≡ certificate)
 unfolding certificate_bytes note_bytes accusation_bytes key_bytes
 bodies = (refl, refl, refl)
 

@@ -6,8 +6,11 @@ use Rattle.lms_tree.specs.declared.kind.TreeKind.{TreeKind}
 use Rattle.lms_tree.specs.declared.kind.TreeKind.TheVariants.{H5, H10, H15}
 use Rattle.lms_tree.specs.declared.key.PublicKey.{PublicKey}
 use Rattle.lms_tree.specs.Kinds.{signature_length}
-use Rattle.lms_tree.specs.Lms.{Verifies}
+use Rattle.lms_tree.specs.Lms as lms
 use Rattle.lms_tree.proofs.Verdicts.{verifies-length}
+use Rattle.records.specs.declared.keys.Key.{Key}
+use Rattle.records.specs.declared.keys.Key.TheVariants as keys
+use Rattle.records.specs.Keys.{Verifies}
 use Rattle.records.specs.Spelling.{HasLength}
 
 record IsWithin (n : ℕ) : Type 0 where
@@ -28,8 +31,11 @@ lengths H15 W2 = record { some = lit< tt; few = lit≤ tt }
 lengths H15 W4 = record { some = lit< tt; few = lit≤ tt }
 lengths H15 W8 = record { some = lit< tt; few = lit≤ tt }
 
-pub signed-length : (key : PublicKey) (message signature : List ℕ) → Verifies key message signature → HasLength signature
-signed-length key message signature good =
+lms-length : (key : PublicKey) (message signature : List ℕ) → lms.Verifies key message signature → HasLength signature
+lms-length key message signature good =
     let long = verifies-length key message signature good in
     let within = lengths key.tree key.ots in
     record { some = rw long within.some; few = rw long within.few }
+
+pub signed-length : (key : Key) (message signature : List ℕ) → Verifies key message signature → HasLength signature
+signed-length (keys.Lms key) message signature good = lms-length key message signature good

@@ -13,6 +13,7 @@ use Rattle.records.specs.declared.CertBody.{CertBody}
 use Rattle.records.specs.declared.Body.{Body}
 use Rattle.records.specs.declared.Body.TheVariants.{Certificate, Note, Accusation}
 use Rattle.records.specs.declared.Record.{Record}
+use Rattle.records.specs.declared.keys.Key.TheVariants as keys
 use Rattle.records.specs.declared.fault.FormFault.{FormFault}
 use Rattle.records.specs.declared.fault.FormFault.TheVariants as faults
 use Rattle.records.specs.declared.steps.Misread.{Misread}
@@ -78,7 +79,7 @@ certificate_at r = do
   member ← number_at w16 member_number r
   port ← number_at w16 nonzero member.1
   key ← key_at port.1
-  Ok (record { member = member.0; port = port.0; key = key.0 }, key.1)
+  Ok (record { member = member.0; port = port.0; key = keys.Lms key.0 }, key.1)
 
 -- a note whose mask has this width and keeps this rule
 abbrev pub note_by : Width → (ℕ → Option ℕ) → Reading → Result (NoteBody × Reading) ℕ

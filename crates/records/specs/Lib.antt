@@ -1,3 +1,4 @@
+pub mod Keys
 pub mod Spelling
 pub mod Grammar
 pub mod Signing

@@ -5,11 +5,11 @@ use Rattle.ff_ids.specs.declared.TheConstants.{MEMBERS, MASK_BITS}
 use Rattle.ff_ids.specs.Masks.{is_wide}
 use Rattle.ff_ids.specs.declared.NoteBody.{NoteBody}
 use Rattle.ff_ids.specs.declared.AccBody.{AccBody}
-use Rattle.lms_tree.specs.Lms.{key_bytes}
 use Rattle.records.specs.declared.CertBody.{CertBody}
 use Rattle.records.specs.declared.Body.{Body}
 use Rattle.records.specs.declared.Body.TheVariants.{Certificate, Note, Accusation}
 use Rattle.records.specs.declared.Record.{Record}
+use Rattle.records.specs.Keys.{IsKey, key_bytes}
 
 -- kind 1, the member, its port, and the key's 56 bytes
 unfoldable pub certificate_bytes : CertBody → List ℕ
@@ -43,8 +43,7 @@ pub record IsCertificate (c : CertBody) : Type 0 where
   pub member_number : c.member < MEMBERS
   pub has_port : 0 < c.port
   pub port_fits : c.port < 2 ^ 16
-  pub id_long : length c.key.id ≡ 16
-  pub root_long : length c.key.root ≡ 32
+  pub key : IsKey c.key
 
 pub record IsNote (n : NoteBody) : Type 0 where
   pub member_number : n.member < MEMBERS

@@ -1,14 +1,13 @@
 //! Records whose signature was checked.
 
 ghost use Rattle.std.specs.Prelude.{◌≡◌, ◌↔◌, IsOk, IfOk, IfErr, Ok, Err};
-ghost use Rattle.lms_tree.specs.Lms.{verdict_of};
+ghost use Rattle.records.specs.Keys.{verdict_of};
 ghost use Rattle.records.specs.Spelling.{HasPort, IsBody};
 ghost use Rattle.records.specs.Signing.{IsSigned, IsChecked, signed_bytes};
 
-use crate::Record;
 use crate::signing::signed_bytes;
+use crate::{Key, Record, RecordFault};
 use ff_ids::Group;
-use lms_tree::{PublicKey, SigFault, verify};
 use std::marker::Model;
 
 /// A record whose signature verifies under the key that it holds, over its signed bytes in the group of the tag
@@ -16,7 +15,7 @@ use std::marker::Model;
 #[derive(Drop)]
 pub struct Checked {
     record: Record,
-    key: PublicKey,
+    key: Key,
     tag: [u8; 16],
     t: u8,
 }
@@ -35,7 +34,7 @@ impl Model for Checked {
 impl Checked {
     /// Checks the record's signature under the key, in the group. Where it isn't good the record is handed back
     /// with the fault.
-    pub fn new(group: &Group, key: &PublicKey, rec: Record) -> Result<Checked, (Record, SigFault)>
+    pub fn new(group: &Group, key: &Key, rec: Record) -> Result<Checked, (Record, RecordFault)>
         requires { HasPort rec.body }
         ensures ok { IfOk result
             (λ c. c ≡ record
@@ -47,14 +46,14 @@ impl Checked {
             ≡ Err e.1)) }
     {
         let signed = signed_bytes(group, &rec.body);
-        match verify(key, signed.as_slice(), rec.signature.as_slice()) {
+        match key.verify(signed.as_slice(), rec.signature.as_slice()) {
             Ok(()) => Ok(Checked::from_signed(group, key, rec)),
             Err(fault) => Err((rec, fault)),
         }
     }
 
     /// The same of a record that was signed by the key in the group. Nothing is checked.
-    pub fn from_signed(group: &Group, key: &PublicKey, rec: Record) -> Checked
+    pub fn from_signed(group: &Group, key: &Key, rec: Record) -> Checked
         requires body { IsBody rec.body }
         requires signed { IsSigned key.now group.now.tag group.now.t rec }
         ensures { result ≡ record
@@ -77,7 +76,7 @@ impl Checked {
     }
 
     /// The key under which its signature verifies.
-    pub fn key(&self) -> &PublicKey
+    pub fn key(&self) -> &Key
         ensures { result.now ≡ self.now.key }
     {
         &self.key

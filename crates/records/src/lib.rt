@@ -6,12 +6,14 @@ ghost use Rattle.std.specs.Prelude.{◌≡◌};
 
 pub use checked::Checked;
 pub use fault::FormFault;
+pub use keys::{Key, RecordFault};
 pub use reading::{next_record, pass_record, read_record};
 pub use signing::{Signed, signed_bytes};
 pub use writing::write_record;
 
 mod checked;
 mod fault;
+mod keys;
 pub mod laws;
 mod reading;
 mod signing;
@@ -20,7 +22,6 @@ mod writing;
 
 use ff_ids::{AccBody, MemberId, NoteBody};
 use fields::Bytes;
-use lms_tree::PublicKey;
 use std::marker::Model;
 
 /// What the authority says of a member: its port on 127.0.0.1, at least 1, and its public key. Each call that
@@ -29,7 +30,7 @@ use std::marker::Model;
 pub struct CertBody {
     pub member: MemberId,
     pub port: u16,
-    pub key: PublicKey,
+    pub key: Key,
 }
 
 /// What is signed.

@@ -8,7 +8,7 @@ ghost use Rattle.records.specs.Grammar.{Reads, Passes, ReadsRecord, GivesRecord,
 
 use crate::fault::FormFault;
 use crate::steps::{Misread, epoch, key, mask, member, port, ring, wide_mask};
-use crate::{Body, CertBody, Record};
+use crate::{Body, CertBody, Key, Record};
 use ff_ids::{AccBody, NoteBody};
 use fields::{Bytes, Reader};
 use std::alloc::Global;
@@ -23,7 +23,11 @@ fn certificate(reader: &mut Reader) -> Result<CertBody, Misread>
     let member = member(reader)?;
     let port = port(reader)?;
     let key = key(reader)?;
-    Ok(CertBody { member, port, key })
+    Ok(CertBody {
+        member,
+        port,
+        key: Key::Lms(key),
+    })
 }
 
 #[tactic(auto, unfolding(crate::specs::Grammar::note_at))]

@@ -32,7 +32,7 @@ fn certificate_bytes(certificate: &CertBody) -> BodyBytes
     out.push(1);
     put(&mut out, &certificate.member.get().to_be_bytes());
     put(&mut out, &certificate.port.to_be_bytes());
-    put(&mut out, &certificate.key.write());
+    put(&mut out, certificate.key.write().as_slice());
     out
 }
 
