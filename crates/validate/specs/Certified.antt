@@ -8,6 +8,8 @@ use Rattle.membership.specs.Life.{Life, has_joined}
 use Rattle.records.specs.declared.CertBody.{CertBody}
 use Rattle.records.specs.declared.Body.{Body}
 use Rattle.records.specs.declared.Body.TheVariants.{Certificate, Note, Accusation}
+use Rattle.records.specs.declared.keys.Key.{Key}
+use Rattle.records.specs.declared.keys.Key.TheVariants as keys
 
 -- the certificate of each number that has one
 abbrev pub Certificates : Type 0
@@ -16,12 +18,12 @@ Certificates = map.FinMap nat_cmp CertBody
 abbrev pub certificate_of : Certificates → ℕ → Option CertBody
 certificate_of certificates m = map.get certificates m
 
-abbrev pub key_of : Certificates → ℕ → Option PublicKey
+abbrev pub key_of : Certificates → ℕ → Option Key
 key_of certificates m = option_map (λ c. c.key) (certificate_of certificates m)
 
 -- The authority's key signs certificates, a member's its notes, and an accuser's its accusations.
-abbrev pub signing_key : PublicKey → Certificates → Body → Option PublicKey
-signing_key authority certificates (Certificate c) = Some authority
+abbrev pub signing_key : PublicKey → Certificates → Body → Option Key
+signing_key authority certificates (Certificate c) = Some (keys.Lms authority)
 signing_key authority certificates (Note n) = key_of certificates n.member
 signing_key authority certificates (Accusation a) = key_of certificates a.accuser
 

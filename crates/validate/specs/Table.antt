@@ -14,18 +14,20 @@ use Rattle.membership.specs.Life.{Life, note_fault_in, accusation_fault_in}
 use Rattle.lms_ots.specs.Ots as ots
 use Rattle.lms_tree.specs.declared.key.PublicKey.{PublicKey}
 use Rattle.lms_tree.specs.Kinds.{type_number}
-use Rattle.lms_tree.specs.Lms.{key_bytes, verdict_of}
 use Rattle.records.specs.declared.CertBody.{CertBody}
 use Rattle.records.specs.declared.Body.{Body}
 use Rattle.records.specs.declared.Body.TheVariants.{Certificate, Note, Accusation}
 use Rattle.records.specs.declared.Record.{Record}
+use Rattle.records.specs.declared.keys.Key.{Key}
+use Rattle.records.specs.declared.keys.Key.TheVariants as keys
+use Rattle.records.specs.Keys.{key_bytes, verdict_of}
 use Rattle.records.specs.Signing.{signed_bytes, CheckedRecord}
 use Rattle.validate.specs.Certified.{Certificates, certificate_of}
 
 -- ---- the rows
 
-abbrev pub is_same_key : PublicKey → PublicKey → Bool
-is_same_key a b =
+abbrev pub is_same_key : Key → Key → Bool
+is_same_key (keys.Lms a) (keys.Lms b) =
     (type_number a.tree == type_number b.tree) && ((ots.type_number a.ots == ots.type_number b.ots) && (bytes_eq a.id b.id && bytes_eq a.root b.root))
 
 abbrev pub is_same_certificate : CertBody → CertBody → Bool
@@ -39,7 +41,7 @@ abbrev pub certificate_fault : Option CertBody → CertBody → Option Fault
 certificate_fault kept c = option_map (λ k. fault_beside_kept k c) kept
 
 -- The record's signature is to verify under this key. Who has no certificate, and so no key, is no member.
-abbrev pub signature_fault : (PublicKey → Record → Bool) → Option PublicKey → Record → Option Fault
+abbrev pub signature_fault : (Key → Record → Bool) → Option Key → Record → Option Fault
 signature_fault verifies None r = Some faults.UnknownMember
 signature_fault verifies (Some key) r = if verifies key r then None else Some faults.BadSignature
 
@@ -52,18 +54,18 @@ own_ahead own newest_note n = if n.member == own then option_map (λ stored. fau
 -- What an observer knows when it checks a record: which signatures verify, the tolerance, the authority's key, the
 -- certificates kept, the state, and its own number.
 pub record Knowledge : Type 0 where
-  pub verifies : PublicKey → Record → Bool
+  pub verifies : Key → Record → Bool
   pub t : ℕ
   pub authority : PublicKey
   pub certificate : ℕ → Option CertBody
   pub state : State
   pub own : ℕ
 
-abbrev pub known_key : Knowledge → ℕ → Option PublicKey
+abbrev pub known_key : Knowledge → ℕ → Option Key
 known_key k m = option_map (λ c. c.key) (k.certificate m)
 
 abbrev pub first_fault_of : Knowledge → Record → Body → Option Fault
-first_fault_of k r (Certificate c) = option_or (certificate_fault (k.certificate c.member) c) (signature_fault k.verifies (Some k.authority) r)
+first_fault_of k r (Certificate c) = option_or (certificate_fault (k.certificate c.member) c) (signature_fault k.verifies (Some (keys.Lms k.authority)) r)
 first_fault_of k r (Note n) =
     option_or (note_fault k.t k.state n)
     (option_or (signature_fault k.verifies (known_key k n.member) r) (own_ahead k.own (newest k.state.notes k.own) n))
@@ -89,7 +91,7 @@ IsUnrefusedBy l certificates (Accusation a) = accusation_fault_in l a ≡ None
 -- ---- what a call gives
 
 -- The record's signature verifies under the key, in the group.
-abbrev pub verifies_in : Group → PublicKey → Record → Bool
+abbrev pub verifies_in : Group → Key → Record → Bool
 verifies_in g key r = is_ok (verdict_of key (signed_bytes g.tag g.t r.body) r.signature)
 
 -- an observer in the group, of this authority, certificates, state and number
@@ -102,6 +104,6 @@ fault_in (Ok x) = None
 fault_in (Err fault) = Some fault
 
 -- The record was checked in the group, under this key.
-pub record IsCheckOf (g : Group) (key : Option PublicKey) (r : Record) (c : CheckedRecord) : Type 0 where
+pub record IsCheckOf (g : Group) (key : Option Key) (r : Record) (c : CheckedRecord) : Type 0 where
   pub same : c ≡ record { rec = r; key = c.key; tag = g.tag; t = g.t }
   pub right_key : key ≡ Some c.key

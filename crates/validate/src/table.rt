@@ -7,6 +7,8 @@ ghost use Rattle.membership.specs.Holds.{Holds};
 ghost use Rattle.membership.specs.Life.{note_fault_in, accusation_fault_in};
 ghost use Rattle.records.specs.declared.Body.TheVariants.{Certificate, Note, Accusation};
 ghost use Rattle.records.specs.Spelling.{HasPort};
+ghost use Rattle.records.specs.Keys.{key_bytes};
+ghost use Rattle.records.specs.declared.keys.Key.TheVariants as keys;
 ghost use Rattle.validate.specs.Certified.{key_of, certificate_of, signing_key};
 ghost use Rattle.validate.specs.Table.{certificate_fault, signature_fault, own_ahead, first_fault, known_by, verifies_in, fault_in, IsCheckOf, IsUnrefused, IsUnrefusedBy};
 ghost use Rattle.ff_ids.specs.Notes.{newest};
@@ -16,7 +18,15 @@ use crate::Roster;
 use ff_ids::{AccBody, Fault, Group, MemberId, NoteBody};
 use lms_tree::PublicKey;
 use membership::Membership;
-use records::{Body, CertBody, Checked, Record};
+use records::{Body, CertBody, Checked, Key, Record};
+
+fn key_bytes(key: &Key) -> [u8; 56]
+    ensures { result ≡ key_bytes key.now }
+{
+    match key {
+        Key::Lms(key) => key.write(),
+    }
+}
 
 /// What an observer knows when it checks a record.
 #[derive(Clone, Copy)]
@@ -29,7 +39,7 @@ struct Observer<'a> {
 impl<'a> Observer<'a> {
     /// The record as checked under the key, or `BadSignature`. No record comes here that is refused without a look at
     /// its signature.
-    fn check_signature(&self, key: &PublicKey, rec: Record) -> Result<Checked, Fault>
+    fn check_signature(&self, key: &Key, rec: Record) -> Result<Checked, Fault>
         requires port { HasPort rec.body }
         requires unrefused { (s : State) → Holds self.now.membership.now s
             → IsUnrefused self.now.group.now self.now.roster.now s rec.body }
@@ -54,7 +64,7 @@ impl<'a> Observer<'a> {
         }
         Some(Fault::OtherCertificate {
             port: kept.port,
-            key: kept.key.write(),
+            key: key_bytes(&kept.key),
         })
     }
 
@@ -81,18 +91,18 @@ impl<'a> Observer<'a> {
     ) -> Result<Checked, Fault>
         requires body { rec.body ≡ Certificate cert.now }
         requires port { HasPort rec.body }
-        ensures checked { IfOk result (IsCheckOf self.now.group.now (Some authority.now) rec) }
+        ensures checked { IfOk result (IsCheckOf self.now.group.now (Some (keys.Lms authority.now)) rec) }
         ensures unrefused { OnOk result
             (certificate_of self.now.roster.now cert.now.member ≡ None) }
         ensures fault { fault_in result
             ≡ option_or
             (certificate_fault (certificate_of self.now.roster.now cert.now.member) cert.now)
-            (signature_fault (verifies_in self.now.group.now) (Some authority.now) rec) }
+            (signature_fault (verifies_in self.now.group.now) (Some (keys.Lms authority.now)) rec) }
     {
         if let Some(fault) = self.certificate_fault(cert) {
             return Err(fault);
         }
-        self.check_signature(authority, rec)
+        self.check_signature(&Key::Lms(*authority), rec)
     }
 
     fn check_note(&self, own: MemberId, note: &NoteBody, rec: Record) -> Result<Checked, Fault>
