@@ -10,8 +10,8 @@ use Rattle.ff_ids.specs.declared.AccBody.{AccBody}
 use Rattle.ff_ids.specs.declared.NoteBody.{NoteBody}
 use Rattle.ff_ids.specs.declared.Fault.{Fault}
 use Rattle.ff_ids.specs.declared.Fault.TheVariants as faults
-use Rattle.lms_tree.specs.declared.key.PublicKey.{PublicKey}
-use Rattle.lms_tree.specs.Lms.{key_bytes}
+use Rattle.records.specs.declared.keys.Key.{Key}
+use Rattle.records.specs.Keys.{key_bytes}
 use Rattle.records.specs.Spelling.{IsNote}
 use Rattle.records.specs.declared.CertBody.{CertBody}
 use Rattle.records.specs.declared.Body.{Body}
@@ -66,14 +66,14 @@ exact_64 = exact_so (λ n. n < 2 ^ 64) (λ n g. omega (arith, g.1)) (λ n g. (om
 
 pub certificate_is : (c : CertBody) → (c.member < MEMBERS) × (IsPort c.port × IsKey c.key) → IsCertificate c
 certificate_is c g = record {
-  certificate = record { member_number = g.0; has_port = g.1.0.some; port_fits = g.1.0.fits; id_long = g.1.1.id_long; root_long = g.1.1.root_long };
+  certificate = record { member_number = g.0; has_port = g.1.0.some; port_fits = g.1.0.fits; key = g.1.1.parts };
   key = g.1.1.bytes;
 }
 
 pub certificate_parts : (c : CertBody) → IsCertificate c → (c.member < MEMBERS) × (IsPort c.port × IsKey c.key)
 certificate_parts c g =
     let is = g.certificate in
-    (is.member_number, (record { some = is.has_port; fits = is.port_fits }, record { id_long = is.id_long; root_long = is.root_long; bytes = g.key }))
+    (is.member_number, (record { some = is.has_port; fits = is.port_fits }, record { parts = is.key; bytes = g.key }))
 
 pub note_is : (n : NoteBody) → (n.member < MEMBERS) × (IsEpoch n.epoch × (n.mask.0 < 2 ^ MASK_BITS)) → IsNote n
 note_is n g = record { member_number = g.0; has_epoch = g.1.0.some; epoch_fits = g.1.0.fits; mask_fits = g.1.1 }
@@ -96,7 +96,7 @@ pub exact_certificate : Exact certificate_at certificate_words IsCertificate
 unfolding certificate_at
 exact_certificate =
     exact_so IsCertificate certificate_is certificate_parts
-    (exact_made (λ (p : ℕ × (ℕ × PublicKey)). let c : CertBody = record { member = p.0; port = p.1.0; key = p.1.1 } in c) (λ (c : CertBody). (c.member, (c.port, c.key))) (λ y. refl) (λ x. refl)
+    (exact_made (λ (p : ℕ × (ℕ × Key)). let c : CertBody = record { member = p.0; port = p.1.0; key = p.1.1 } in c) (λ (c : CertBody). (c.member, (c.port, c.key))) (λ y. refl) (λ x. refl)
     (exact_both exact_member (exact_both exact_port exact_key)))
 
 pub exact_note : Exact note_at note_words IsNote
@@ -143,7 +143,7 @@ fault_read m fault_kind.AlreadyMember all t s y head e = read_as exact_nothing (
 fault_read m fault_kind.UnknownMember all t s y head e = read_as exact_nothing (λ (_ : Unit {0}). faults.UnknownMember) fault_words (IsFault m) (codes "unknown-member") (λ x. refl) (λ x g. tt) all t s y head e
 fault_read m fault_kind.BadMask all t s y head e = read_as exact_nothing (λ (_ : Unit {0}). faults.BadMask) fault_words (IsFault m) (codes "bad-mask") (λ x. refl) (λ x g. tt) all t s y head e
 fault_read m fault_kind.Known all t s y head e = read_as exact_nothing (λ (_ : Unit {0}). faults.Known) fault_words (IsFault m) (codes "known") (λ x. refl) (λ x g. tt) all t s y head e
-fault_read m fault_kind.OtherCertificate all t s y head e = read_as (exact_both exact_port exact_key) (λ (p : ℕ × PublicKey). faults.OtherCertificate p.0 (key_bytes p.1)) fault_words (IsFault m) (codes "other-certificate") (λ x. refl) (λ x g. (g.0, record { key = x.1; is_key = g.1; same = refl })) all t s y head e
+fault_read m fault_kind.OtherCertificate all t s y head e = read_as (exact_both exact_port exact_key) (λ (p : ℕ × Key). faults.OtherCertificate p.0 (key_bytes p.1)) fault_words (IsFault m) (codes "other-certificate") (λ x. refl) (λ x g. (g.0, record { key = x.1; is_key = g.1; same = refl })) all t s y head e
 fault_read m fault_kind.Older all t s y head e = read_as (exact_both exact_epoch exact_mask) (λ (p : ℕ × ℕ). faults.Older p.0 (record { 0 = p.1 })) fault_words (IsFault m) (codes "older") (λ x. refl) (λ x g. g) all t s y head e
 fault_read m fault_kind.SelfAccusation all t s y head e = read_as exact_nothing (λ (_ : Unit {0}). faults.SelfAccusation) fault_words (IsFault m) (codes "self-accusation") (λ x. refl) (λ x g. tt) all t s y head e
 fault_read m fault_kind.BadRing all t s y head e = read_as exact_nothing (λ (_ : Unit {0}). faults.BadRing) fault_words (IsFault m) (codes "bad-ring") (λ x. refl) (λ x g. tt) all t s y head e
@@ -165,11 +165,11 @@ ahead_same m stored seen one two =
 abbrev done_fault : Fault → Reading → Result (Fault × Reading) ℕ
 done_fault f s = Ok (f, s)
 
-other_back : (m port : ℕ) (bytes : List ℕ) (k : PublicKey) → IsPort port → IsKey k → bytes ≡ key_bytes k → (r : Reading) (rest : List (List ℕ)) → r.words ≡ codes "other-certificate" ∷ decimal port ∷ encode_lower bytes ∷ rest
+other_back : (m port : ℕ) (bytes : List ℕ) (k : Key) → IsPort port → IsKey k → bytes ≡ key_bytes k → (r : Reading) (rest : List (List ℕ)) → r.words ≡ codes "other-certificate" ∷ decimal port ∷ encode_lower bytes ∷ rest
     → (s : Reading) × (fault_at m r ≡ Ok (faults.OtherCertificate port bytes, s)) × (s.words ≡ rest)
 unfolding fault_at
 other_back m port bytes k good is_key same r rest left =
-    let a = back_as (among fault_word every_fault_kind) (fault_behind m) fault_kind.OtherCertificate (codes "other-certificate") (exact_both exact_port exact_key) (λ (p : ℕ × PublicKey). faults.OtherCertificate p.0 (key_bytes p.1)) (λ t. refl) refl (port, k) (good, is_key) r rest
+    let a = back_as (among fault_word every_fault_kind) (fault_behind m) fault_kind.OtherCertificate (codes "other-certificate") (exact_both exact_port exact_key) (λ (p : ℕ × Key). faults.OtherCertificate p.0 (key_bytes p.1)) (λ t. refl) refl (port, k) (good, is_key) r rest
     (left ∙ ap (λ (b : List ℕ). codes "other-certificate" ∷ decimal port ∷ encode_lower b ∷ rest) same) in
     (a.0, a.1 ∙ ap (λ (b : List ℕ). done_fault (faults.OtherCertificate port b) a.0) (sym same), a.2)
 

@@ -16,8 +16,10 @@ use Rattle.ff_ids.specs.declared.Fault.{Fault}
 use Rattle.ff_ids.specs.declared.Fault.TheVariants as faults
 use Rattle.lms_ots.specs.declared.kind.OtsKind.TheVariants.{W8}
 use Rattle.lms_tree.specs.declared.kind.TreeKind.TheVariants.{H5}
-use Rattle.lms_tree.specs.declared.key.PublicKey.{PublicKey}
-use Rattle.lms_tree.specs.Lms.{key_bytes}
+use Rattle.records.specs.declared.keys.Key.{Key}
+use Rattle.records.specs.declared.keys.Key.TheVariants as keys
+use Rattle.lms_tree.specs.Lms as lms
+use Rattle.records.specs.Keys.{key_bytes}
 use Rattle.records.specs.Spelling.{IsNote}
 use Rattle.records.specs.declared.CertBody.{CertBody}
 use Rattle.records.specs.declared.Body.{Body}
@@ -97,15 +99,15 @@ firm_bytes = firm_token bytes_of (0 ∷ []) (omega arith, one_byte) exact_bytes
 abbrev zeros_16 : List ℕ
 zeros_16 = 0 ∷ 0 ∷ 0 ∷ 0 ∷ 0 ∷ 0 ∷ 0 ∷ 0 ∷ 0 ∷ 0 ∷ 0 ∷ 0 ∷ 0 ∷ 0 ∷ 0 ∷ 0 ∷ []
 
-abbrev zero_key : PublicKey
-zero_key = record { tree = H5; ots = W8; id = zeros_16; root = zeros_16 ++ zeros_16 }
+abbrev zero_key : Key
+zero_key = keys.Lms (record { tree = H5; ots = W8; id = zeros_16; root = zeros_16 ++ zeros_16 })
 
 zero_bytes : IsBytes (key_bytes zero_key)
-unfolding key_bytes
+unfolding lms.key_bytes
 zero_bytes = are_bytes (key_bytes zero_key) refl
 
 firm_key : Firm (token_at key_of) (λ k. encode_lower (key_bytes k) ∷ []) IsKey
-firm_key = firm_token key_of zero_key (record { id_long = refl; root_long = refl; bytes = zero_bytes }) exact_key
+firm_key = firm_token key_of zero_key (record { parts = record { id_long = refl; root_long = refl }; bytes = zero_bytes }) exact_key
 
 -- ---- bodies
 
@@ -113,7 +115,7 @@ firm_certificate : Firm certificate_at certificate_words IsCertificate
 unfolding certificate_at
 firm_certificate =
     firm_so IsCertificate certificate_is certificate_parts
-    (firm_made (λ (p : ℕ × (ℕ × PublicKey)). let c : CertBody = record { member = p.0; port = p.1.0; key = p.1.1 } in c) (λ (c : CertBody). (c.member, (c.port, c.key))) (λ y. refl) (λ x. refl)
+    (firm_made (λ (p : ℕ × (ℕ × Key)). let c : CertBody = record { member = p.0; port = p.1.0; key = p.1.1 } in c) (λ (c : CertBody). (c.member, (c.port, c.key))) (λ y. refl) (λ x. refl)
     (firm_both firm_member (firm_both firm_port firm_key)))
 
 firm_note : Firm note_at note_words IsNote
@@ -146,7 +148,7 @@ fault_branch m fault_kind.AlreadyMember = branch firm_nothing (λ (_ : Unit {0})
 fault_branch m fault_kind.UnknownMember = branch firm_nothing (λ (_ : Unit {0}). faults.UnknownMember) fault_words (IsFault m) (codes "unknown-member") (λ x. refl) (λ x g. tt)
 fault_branch m fault_kind.BadMask = branch firm_nothing (λ (_ : Unit {0}). faults.BadMask) fault_words (IsFault m) (codes "bad-mask") (λ x. refl) (λ x g. tt)
 fault_branch m fault_kind.Known = branch firm_nothing (λ (_ : Unit {0}). faults.Known) fault_words (IsFault m) (codes "known") (λ x. refl) (λ x g. tt)
-fault_branch m fault_kind.OtherCertificate = branch (firm_both firm_port firm_key) (λ (p : ℕ × PublicKey). faults.OtherCertificate p.0 (key_bytes p.1)) fault_words (IsFault m) (codes "other-certificate") (λ x. refl) (λ x g. (g.0, record { key = x.1; is_key = g.1; same = refl }))
+fault_branch m fault_kind.OtherCertificate = branch (firm_both firm_port firm_key) (λ (p : ℕ × Key). faults.OtherCertificate p.0 (key_bytes p.1)) fault_words (IsFault m) (codes "other-certificate") (λ x. refl) (λ x g. (g.0, record { key = x.1; is_key = g.1; same = refl }))
 fault_branch m fault_kind.Older = branch (firm_both firm_epoch firm_mask) (λ (p : ℕ × ℕ). faults.Older p.0 (record { 0 = p.1 })) fault_words (IsFault m) (codes "older") (λ x. refl) (λ x g. g)
 fault_branch m fault_kind.SelfAccusation = branch firm_nothing (λ (_ : Unit {0}). faults.SelfAccusation) fault_words (IsFault m) (codes "self-accusation") (λ x. refl) (λ x g. tt)
 fault_branch m fault_kind.BadRing = branch firm_nothing (λ (_ : Unit {0}). faults.BadRing) fault_words (IsFault m) (codes "bad-ring") (λ x. refl) (λ x g. tt)

@@ -14,7 +14,10 @@ use Rattle.lms_tree.specs.declared.kind.TreeKind.TheVariants.{H5, H10, H15}
 use Rattle.lms_tree.specs.Kinds.{type_number}
 use Rattle.lms_tree.specs.declared.key.PublicKey.{PublicKey}
 use Rattle.lms_tree.specs.declared.kind.KeyFault.{KeyFault}
-use Rattle.lms_tree.specs.Lms.{key_bytes, key_in, key_with, tree_of}
+use Rattle.lms_tree.specs.Lms.{key_bytes as lms_bytes, key_in, key_with, tree_of}
+use Rattle.records.specs.declared.keys.Key.{Key}
+use Rattle.records.specs.declared.keys.Key.TheVariants as keys
+use Rattle.records.specs.Keys.{key_bytes}
 use Rattle.lms_tree.proofs.Keys.{key_in-key_bytes, key-spelled}
 use Rattle.journal.specs.Texts.{answer_text, flag_text}
 use Rattle.journal.specs.Spelling.{IsKey, IsMonitor}
@@ -93,11 +96,17 @@ pub exact_bytes : Exact (token_at bytes_of) (λ b. encode_lower b ∷ []) (λ b.
 exact_bytes = exact_token bytes_of encode_lower (λ b. (0 < length b) × IsBytes b)
     (λ word b e. let p = bytes_back word b e in (p.0, (p.1, p.2))) (λ b good. bytes_again b good.0 good.1)
 
-key_kept : (r : Result PublicKey KeyFault) (key : PublicKey) → key_or_none r ≡ Some key → r ≡ Ok key
-key_kept (Ok x) key e = cc
+-- what a key that is read is made of
+record KeptAs (r : Result PublicKey KeyFault) (key : Key) : Type 0 where
+  lms : PublicKey
+  read : r ≡ Ok lms
+  same : keys.Lms lms ≡ key
+
+key_kept : (r : Result PublicKey KeyFault) (key : Key) → key_or_none r ≡ Some key → KeptAs r key
+key_kept (Ok x) key e = record { lms = x; read = refl; same = cc }
 key_kept (Err f) key e = absurd cc
 
-key_found : (o : Option (List ℕ)) (key : PublicKey) → key_from o ≡ Some key → (bytes : List ℕ) × (o ≡ Some bytes) × (key_in bytes ≡ Ok key)
+key_found : (o : Option (List ℕ)) (key : Key) → key_from o ≡ Some key → (bytes : List ℕ) × (o ≡ Some bytes) × KeptAs (key_in bytes) key
 key_found (Some bytes) key e = (bytes, refl, key_kept (key_in bytes) key e)
 key_found None key e = absurd cc
 
@@ -150,7 +159,7 @@ unless_other : (b : Bool) (r : Result PublicKey KeyFault) (f : KeyFault) (key : 
 unless_other true r f key e = (refl, e)
 unless_other false r f key e = absurd cc
 
-key_back : (s : List ℕ) (key : PublicKey) → IsBytes s → key_in s ≡ Ok key → (s ≡ key_bytes key) × IsKey key
+key_back : (s : List ℕ) (key : PublicKey) → IsBytes s → key_in s ≡ Ok key → (s ≡ lms_bytes key) × IsKey (keys.Lms key)
 unfolding key_in
 key_back s key below e =
     let g = unless_other (eqb (length s) 56) (key_with s (tree_of (ots.number_at 0 s)) (ots.kind_of (ots.number_at 4 s))) _ key e in
@@ -159,19 +168,19 @@ key_back s key below e =
     let spelled = key-spelled s long below p.the_tree (tree_is (ots.number_at 0 s) p.the_tree p.is_tree) p.the_kind (kind_is (ots.number_at 4 s) p.the_kind p.is_kind) in
     let id : length (slice_range s 8 24) ≡ 16 = omega (arith, length-take 16 (drop 8 s), length-drop 8 s, long) in
     let root : length (slice_range s 24 56) ≡ 32 = omega (arith, length-take 32 (drop 24 s), length-drop 24 s, long) in
-    subst (λ (k : PublicKey). (s ≡ key_bytes k) × IsKey k) p.same
-    (spelled, record { id_long = id; root_long = root; bytes = subst IsBytes spelled below })
+    subst (λ (k : PublicKey). (s ≡ lms_bytes k) × IsKey (keys.Lms k)) p.same
+    (spelled, record { parts = record { id_long = id; root_long = root }; bytes = subst IsBytes spelled below })
 
-key_is : (word : List ℕ) (key : PublicKey) → key_of word ≡ Some key → (word ≡ encode_lower (key_bytes key)) × IsKey key
+key_is : (word : List ℕ) (key : Key) → key_of word ≡ Some key → (word ≡ encode_lower (key_bytes key)) × IsKey key
 key_is word key e =
     let f = key_found (bytes_of word) key e in
     let b = bytes_back word f.0 f.1 in
-    let k = key_back f.0 key b.2 f.2 in
-    (b.0 ∙ ap encode_lower k.0, k.1)
+    let k = key_back f.0 f.2.lms b.2 f.2.read in
+    subst (λ (k : Key). (word ≡ encode_lower (key_bytes k)) × IsKey k) f.2.same (b.0 ∙ ap encode_lower k.0, k.1)
 
-key_again : (key : PublicKey) → IsKey key → key_of (encode_lower (key_bytes key)) ≡ Some key
-unfolding key_bytes
-key_again key good = ap key_from (bytes_again (key_bytes key) (omega arith) good.bytes) ∙ ap key_or_none (key_in-key_bytes key good.id_long good.root_long)
+key_again : (key : Key) → IsKey key → key_of (encode_lower (key_bytes key)) ≡ Some key
+unfolding lms_bytes
+key_again (keys.Lms key) good = ap key_from (bytes_again (lms_bytes key) (omega arith) good.bytes) ∙ ap key_or_none (key_in-key_bytes key good.parts.id_long good.parts.root_long)
 
 pub exact_key : Exact (token_at key_of) (λ k. encode_lower (key_bytes k) ∷ []) IsKey
 exact_key = exact_token key_of (λ k. encode_lower (key_bytes k)) IsKey key_is key_again

@@ -15,8 +15,10 @@ use Rattle.ff_ids.specs.declared.AccBody.{AccBody}
 use Rattle.ff_ids.specs.declared.NoteBody.{NoteBody}
 use Rattle.ff_ids.specs.declared.Fault.{Fault}
 use Rattle.ff_ids.specs.declared.Fault.TheVariants as faults
-use Rattle.lms_tree.specs.declared.key.PublicKey.{PublicKey}
-use Rattle.lms_tree.specs.Lms.{key_bytes}
+use Rattle.lms_tree.specs.Lms as lms
+use Rattle.records.specs.declared.keys.Key.{Key}
+use Rattle.records.specs.declared.keys.Key.TheVariants as keys
+use Rattle.records.specs.Keys.{key_bytes}
 use Rattle.records.specs.Spelling.{IsNote}
 use Rattle.records.specs.declared.CertBody.{CertBody}
 use Rattle.records.specs.declared.Body.{Body}
@@ -283,11 +285,11 @@ bytes_word b some h =
     let len = length-encode_with lower_digits b in
     word_of (encode_lower b) (omega (arith, len, some)) (lowers_printable (encode_lower b) (encoded_lower b h))
 
-some_key : (k : PublicKey) → 0 < length (key_bytes k)
-unfolding key_bytes
-some_key k = omega arith
+some_key : (k : Key) → 0 < length (key_bytes k)
+unfolding lms.key_bytes
+some_key (keys.Lms k) = omega arith
 
-key_word : (k : PublicKey) → IsKey k → is_word (encode_lower (key_bytes k)) ≡ true
+key_word : (k : Key) → IsKey k → is_word (encode_lower (key_bytes k)) ≡ true
 key_word k good = bytes_word (key_bytes k) (some_key k) good.bytes
 
 worded_certificate : (c : CertBody) → IsCertificate c → Worded (certificate_words c)

@@ -6,8 +6,9 @@ use Rattle.ff_ids.specs.declared.NoteBody.{NoteBody}
 use Rattle.ff_ids.specs.declared.AccBody.{AccBody}
 use Rattle.ff_ids.specs.declared.Fault.{Fault}
 use Rattle.ff_ids.specs.declared.Fault.TheVariants as faults
-use Rattle.lms_tree.specs.declared.key.PublicKey.{PublicKey}
-use Rattle.lms_tree.specs.Lms.{key_bytes}
+use Rattle.records.specs.declared.keys.Key.{Key}
+use Rattle.records.specs.Keys as record_keys
+use Rattle.records.specs.Keys.{key_bytes}
 use Rattle.records.specs.Spelling as records
 use Rattle.records.specs.declared.CertBody.{CertBody}
 use Rattle.records.specs.declared.Body.{Body}
@@ -20,9 +21,8 @@ use Rattle.journal.specs.declared.fault.EventFault.TheVariants as answers
 use Rattle.journal.specs.Grammar.{TakesMemory, about}
 use Rattle.journal.specs.Texts.{event_text}
 
-pub record IsKey (key : PublicKey) : Type 0 where
-  pub id_long : length key.id ≡ 16
-  pub root_long : length key.root ≡ 32
+pub record IsKey (key : Key) : Type 0 where
+  pub parts : record_keys.IsKey key
   pub bytes : IsBytes (key_bytes key)
 
 pub record IsEpoch (epoch : ℕ) : Type 0 where
@@ -48,7 +48,7 @@ IsBody (bodies.Accusation a) = IsAccusation a
 
 -- the bytes are a key's
 pub record IsKeyOf (bytes : List ℕ) : Type 0 where
-  pub key : PublicKey
+  pub key : Key
   pub is_key : IsKey key
   pub same : bytes ≡ key_bytes key
 

@@ -7,7 +7,7 @@ use Rattle.ff_ids.specs.declared.NoteBody.{NoteBody}
 use Rattle.ff_ids.specs.declared.Fault.{Fault}
 use Rattle.life_events.specs.Events as life
 use Rattle.life_events.specs.declared.event.What.TheVariants as in_life
-use Rattle.lms_tree.specs.Lms.{key_bytes}
+use Rattle.records.specs.Keys.{key_bytes}
 use Rattle.records.specs.declared.CertBody.{CertBody}
 use Rattle.records.specs.declared.Body.{Body}
 use Rattle.records.specs.declared.Body.TheVariants as bodies

@@ -12,6 +12,8 @@ use Rattle.line_text.specs.Words.{parts}
 use Rattle.lms_tree.specs.declared.key.PublicKey.{PublicKey}
 use Rattle.lms_tree.specs.declared.kind.KeyFault.{KeyFault}
 use Rattle.lms_tree.specs.Lms.{key_in}
+use Rattle.records.specs.declared.keys.Key.{Key}
+use Rattle.records.specs.declared.keys.Key.TheVariants as keys
 use Rattle.journal.specs.declared.words.Misread.{Misread}
 
 -- The words that are left, and the place at which the first of them begins, or the text's length where none is.
@@ -140,16 +142,16 @@ or_nothing (Some bytes) = bytes
 abbrev pub bytes_in : List ℕ → List ℕ
 bytes_in word = or_nothing (bytes_of word)
 
-abbrev pub key_or_none : Result PublicKey KeyFault → Option PublicKey
-key_or_none (Ok key) = Some key
+abbrev pub key_or_none : Result PublicKey KeyFault → Option Key
+key_or_none (Ok key) = Some (keys.Lms key)
 key_or_none (Err fault) = None
 
-abbrev pub key_from : Option (List ℕ) → Option PublicKey
+abbrev pub key_from : Option (List ℕ) → Option Key
 key_from None = None
 key_from (Some bytes) = key_or_none (key_in bytes)
 
 -- the key of whose 56 bytes the word is the digits
-abbrev pub key_of : List ℕ → Option PublicKey
+abbrev pub key_of : List ℕ → Option Key
 key_of word = key_from (bytes_of word)
 
 -- ---- what calls give

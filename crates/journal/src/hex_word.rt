@@ -9,6 +9,7 @@ use crate::words::{Misread, Words};
 use fields::{Bytes, NoMemory};
 use hex::FromHex;
 use lms_tree::PublicKey;
+use records::Key;
 use std::alloc::Global;
 use std::marker::Model;
 
@@ -97,20 +98,23 @@ pub fn digits_or_dash<'a>(words: &mut Words<'a>) -> Result<Option<HexWord<'a>>, 
     }
 }
 
-fn key_of(word: &[u8]) -> Option<PublicKey>
+fn key_of(word: &[u8]) -> Option<Key>
     ensures { result ≡ key_of word.now }
 {
     if !is_spelled(word) {
         return None;
     }
     match <[u8; 56] as FromHex>::from_hex(word) {
-        Ok(bytes) => PublicKey::read(&bytes).ok(),
+        Ok(bytes) => match PublicKey::read(&bytes) {
+            Ok(key) => Some(Key::Lms(key)),
+            Err(_) => None,
+        },
         Err(_) => None,
     }
 }
 
 /// The digits of a key's 56 bytes.
-pub fn key(words: &mut Words) -> Result<PublicKey, Misread>
+pub fn key(words: &mut Words) -> Result<Key, Misread>
     ensures { Reads (λ k. k) result words.new (token_at key_of words.old) }
 {
     let place = words.place();

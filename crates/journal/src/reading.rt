@@ -18,7 +18,7 @@ use crate::words::{
 };
 use ff_ids::{AccBody, Fault, MemberId, NoteBody};
 use fields::Bytes;
-use records::{Body, CertBody};
+use records::{Body, CertBody, Key};
 use std::alloc::Global;
 
 /// What an event's text says, before it takes memory.
@@ -99,7 +99,9 @@ fn other_certificate(words: &mut Words) -> Result<Fault, Misread>
     ensures { Reads (λ f. f) result words.new (other_certificate_at words.old) }
 {
     let port = port(words)?;
-    let key = key(words)?.write();
+    let key = match key(words)? {
+        Key::Lms(key) => key.write(),
+    };
     Ok(Fault::OtherCertificate { port, key })
 }
 

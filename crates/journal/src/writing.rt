@@ -29,7 +29,7 @@ fn add_certificate(certificate: &CertBody, out: &mut Vec<u8>) -> Result<(), NoMe
 {
     let (member, port) = (certificate.member.get(), certificate.port);
     add_of_two(b"cert ", member.into(), port.into(), out)?;
-    add_of_digits(b" ", &certificate.key.write(), out)?;
+    add_of_digits(b" ", certificate.key.write().as_slice(), out)?;
     Ok(())
 }
 
