@@ -6,19 +6,12 @@ use Rattle.std.proofs.lemmas.Bool.{and_parts, eqb-true, false_from_ne_true, fals
 use Rattle.std.proofs.lemmas.Slice.Eq.{bytes_eq-Decides}
 use Rattle.ff_ids.specs.declared.TheConstants.{LAST_MEMBER}
 use Rattle.hex.specs.Hex.{IsBytes, encode_lower}
-use Rattle.lms_ots.specs.declared.kind.OtsKind.{OtsKind}
-use Rattle.lms_ots.specs.declared.kind.OtsKind.TheVariants.{W1, W2, W4, W8}
-use Rattle.lms_ots.specs.Ots as ots
-use Rattle.lms_tree.specs.declared.kind.TreeKind.{TreeKind}
-use Rattle.lms_tree.specs.declared.kind.TreeKind.TheVariants.{H5, H10, H15}
-use Rattle.lms_tree.specs.Kinds.{type_number}
-use Rattle.lms_tree.specs.declared.key.PublicKey.{PublicKey}
 use Rattle.lms_tree.specs.declared.kind.KeyFault.{KeyFault}
-use Rattle.lms_tree.specs.Lms.{key_bytes as lms_bytes, key_in, key_with, tree_of}
+use Rattle.lms_tree.specs.Lms.{key_bytes as lms_bytes}
 use Rattle.records.specs.declared.keys.Key.{Key}
 use Rattle.records.specs.declared.keys.Key.TheVariants as keys
-use Rattle.records.specs.Keys.{key_bytes}
-use Rattle.lms_tree.proofs.Keys.{key_in-key_bytes, key-spelled}
+use Rattle.records.specs.Keys.{key_bytes, key_in}
+use Rattle.records.proofs.KeyParts.{key-again, key-are}
 use Rattle.journal.specs.Texts.{answer_text, flag_text}
 use Rattle.journal.specs.Spelling.{IsKey, IsMonitor}
 use Rattle.journal.specs.Words.{bytes_of, is_literal, key_from, key_of, key_or_none, monitor_of, number, number_of, number_within, one_of, some_monitor, token_at}
@@ -96,91 +89,31 @@ pub exact_bytes : Exact (token_at bytes_of) (λ b. encode_lower b ∷ []) (λ b.
 exact_bytes = exact_token bytes_of encode_lower (λ b. (0 < length b) × IsBytes b)
     (λ word b e. let p = bytes_back word b e in (p.0, (p.1, p.2))) (λ b good. bytes_again b good.0 good.1)
 
--- what a key that is read is made of
-record KeptAs (r : Result PublicKey KeyFault) (key : Key) : Type 0 where
-  lms : PublicKey
-  read : r ≡ Ok lms
-  same : keys.Lms lms ≡ key
-
-key_kept : (r : Result PublicKey KeyFault) (key : Key) → key_or_none r ≡ Some key → KeptAs r key
-key_kept (Ok x) key e = record { lms = x; read = refl; same = cc }
+key_kept : (r : Result Key KeyFault) (key : Key) → key_or_none r ≡ Some key → r ≡ Ok key
+key_kept (Ok x) key e = cc
 key_kept (Err f) key e = absurd cc
 
-key_found : (o : Option (List ℕ)) (key : Key) → key_from o ≡ Some key → (bytes : List ℕ) × (o ≡ Some bytes) × KeptAs (key_in bytes) key
+key_found : (o : Option (List ℕ)) (key : Key) → key_from o ≡ Some key → (bytes : List ℕ) × (o ≡ Some bytes) × (key_in bytes ≡ Ok key)
 key_found (Some bytes) key e = (bytes, refl, key_kept (key_in bytes) key e)
 key_found None key e = absurd cc
 
-tree_is : (n : ℕ) (t : TreeKind) → tree_of n ≡ Some t → type_number t ≡ n
-tree_is n t e =
-    elim (either_ok (eqb n 5) H5 t _ e) [
-      | inl p ↦ ap type_number (sym p.1) ∙ sym (eqb-true n 5 p.0)
-      | inr e ↦ elim (either_ok (eqb n 6) H10 t _ e) [
-        | inl p ↦ ap type_number (sym p.1) ∙ sym (eqb-true n 6 p.0)
-        | inr e ↦ (let p = picked (eqb n 7) H15 t e in ap type_number (sym p.1) ∙ sym (eqb-true n 7 p.0))
-      ]
-    ]
-
-kind_is : (n : ℕ) (k : OtsKind) → ots.kind_of n ≡ Some k → ots.type_number k ≡ n
-kind_is n k e =
-    elim (either_ok (eqb n 1) W1 k _ e) [
-      | inl p ↦ ap ots.type_number (sym p.1) ∙ sym (eqb-true n 1 p.0)
-      | inr e ↦ elim (either_ok (eqb n 2) W2 k _ e) [
-        | inl p ↦ ap ots.type_number (sym p.1) ∙ sym (eqb-true n 2 p.0)
-        | inr e ↦ elim (either_ok (eqb n 3) W4 k _ e) [
-          | inl p ↦ ap ots.type_number (sym p.1) ∙ sym (eqb-true n 3 p.0)
-          | inr e ↦ (let p = picked (eqb n 4) W8 k e in ap ots.type_number (sym p.1) ∙ sym (eqb-true n 4 p.0))
-        ]
-      ]
-    ]
-
--- what a key of these parts is made of
-record Parts (s : List ℕ) (tree : Option TreeKind) (kind : Option OtsKind) (key : PublicKey) : Type 0 where
-  the_tree : TreeKind
-  the_kind : OtsKind
-  is_tree : tree ≡ Some the_tree
-  is_kind : kind ≡ Some the_kind
-  same : record { tree = the_tree; ots = the_kind; id = slice_range s 8 24; root = slice_range s 24 56 } ≡ key
-
-right_is : (x y : PublicKey) (r : Result PublicKey KeyFault) → r ≡ Ok x → r ≡ Ok y → x ≡ y
-right_is x y r a b = cc
-
-parted : (s : List ℕ) (tree : Option TreeKind) (kind : Option OtsKind) (key : PublicKey) → key_with s tree kind ≡ Ok key → Parts s tree kind key
-parted s None kind key e = absurd cc
-parted s (Some t) None key e = absurd cc
-parted s (Some t) (Some k) key e = record {
-  the_tree = t;
-  the_kind = k;
-  is_tree = refl;
-  is_kind = refl;
-  same = right_is (record { tree = t; ots = k; id = slice_range s 8 24; root = slice_range s 24 56 }) key (key_with s (Some t) (Some k)) refl e;
-}
-
-unless_other : (b : Bool) (r : Result PublicKey KeyFault) (f : KeyFault) (key : PublicKey) → cond b r (Err f) ≡ Ok key → (b ≡ true) × (r ≡ Ok key)
-unless_other true r f key e = (refl, e)
-unless_other false r f key e = absurd cc
-
-key_back : (s : List ℕ) (key : PublicKey) → IsBytes s → key_in s ≡ Ok key → (s ≡ lms_bytes key) × IsKey (keys.Lms key)
-unfolding key_in
-key_back s key below e =
-    let g = unless_other (eqb (length s) 56) (key_with s (tree_of (ots.number_at 0 s)) (ots.kind_of (ots.number_at 4 s))) _ key e in
-    let long : length s ≡ 56 = eqb-true (length s) 56 g.0 in
-    let p = parted s (tree_of (ots.number_at 0 s)) (ots.kind_of (ots.number_at 4 s)) key g.1 in
-    let spelled = key-spelled s long below p.the_tree (tree_is (ots.number_at 0 s) p.the_tree p.is_tree) p.the_kind (kind_is (ots.number_at 4 s) p.the_kind p.is_kind) in
-    let id : length (slice_range s 8 24) ≡ 16 = omega (arith, length-take 16 (drop 8 s), length-drop 8 s, long) in
-    let root : length (slice_range s 24 56) ≡ 32 = omega (arith, length-take 32 (drop 24 s), length-drop 24 s, long) in
-    subst (λ (k : PublicKey). (s ≡ lms_bytes k) × IsKey (keys.Lms k)) p.same
-    (spelled, record { parts = record { id_long = id; root_long = root }; bytes = subst IsBytes spelled below })
+key_back : (s : List ℕ) (key : Key) → IsBytes s → key_in s ≡ Ok key → (s ≡ key_bytes key) × IsKey key
+key_back s (keys.Lms key) below e =
+    let are = key-are s (keys.Lms key) below e in
+    (are.spelled, record { parts = record { id_long = are.id; root_long = are.root }; bytes = subst IsBytes are.spelled below })
 
 key_is : (word : List ℕ) (key : Key) → key_of word ≡ Some key → (word ≡ encode_lower (key_bytes key)) × IsKey key
 key_is word key e =
     let f = key_found (bytes_of word) key e in
     let b = bytes_back word f.0 f.1 in
-    let k = key_back f.0 f.2.lms b.2 f.2.read in
-    subst (λ (k : Key). (word ≡ encode_lower (key_bytes k)) × IsKey k) f.2.same (b.0 ∙ ap encode_lower k.0, k.1)
+    let k = key_back f.0 key b.2 f.2 in
+    (b.0 ∙ ap encode_lower k.0, k.1)
 
 key_again : (key : Key) → IsKey key → key_of (encode_lower (key_bytes key)) ≡ Some key
 unfolding lms_bytes
-key_again (keys.Lms key) good = ap key_from (bytes_again (lms_bytes key) (omega arith) good.bytes) ∙ ap key_or_none (key_in-key_bytes key good.parts.id_long good.parts.root_long)
+key_again (keys.Lms key) good =
+    ap key_from (bytes_again (lms_bytes key) (omega arith) good.bytes)
+    ∙ ap key_or_none (key-again (lms_bytes key) (keys.Lms key) (record { spelled = refl; id = good.parts.id_long; root = good.parts.root_long }))
 
 pub exact_key : Exact (token_at key_of) (λ k. encode_lower (key_bytes k) ∷ []) IsKey
 exact_key = exact_token key_of (λ k. encode_lower (key_bytes k)) IsKey key_is key_again

@@ -9,11 +9,9 @@ use Rattle.ff_ids.specs.declared.TheConstants.{LAST_MEMBER}
 use Rattle.hex.specs.Hex.{decode_of}
 use Rattle.hex.specs.declared.error.FromHexError.{FromHexError}
 use Rattle.line_text.specs.Words.{parts}
-use Rattle.lms_tree.specs.declared.key.PublicKey.{PublicKey}
 use Rattle.lms_tree.specs.declared.kind.KeyFault.{KeyFault}
-use Rattle.lms_tree.specs.Lms.{key_in}
 use Rattle.records.specs.declared.keys.Key.{Key}
-use Rattle.records.specs.declared.keys.Key.TheVariants as keys
+use Rattle.records.specs.Keys.{key_in}
 use Rattle.journal.specs.declared.words.Misread.{Misread}
 
 -- The words that are left, and the place at which the first of them begins, or the text's length where none is.
@@ -142,8 +140,8 @@ or_nothing (Some bytes) = bytes
 abbrev pub bytes_in : List ℕ → List ℕ
 bytes_in word = or_nothing (bytes_of word)
 
-abbrev pub key_or_none : Result PublicKey KeyFault → Option Key
-key_or_none (Ok key) = Some (keys.Lms key)
+abbrev pub key_or_none : Result Key KeyFault → Option Key
+key_or_none (Ok key) = Some key
 key_or_none (Err fault) = None
 
 abbrev pub key_from : Option (List ℕ) → Option Key

@@ -8,7 +8,6 @@ ghost use Rattle.journal.specs.Turns.{bytes_or_dash, or_no_bytes};
 use crate::words::{Misread, Words};
 use fields::{Bytes, NoMemory};
 use hex::FromHex;
-use lms_tree::PublicKey;
 use records::Key;
 use std::alloc::Global;
 use std::marker::Model;
@@ -105,10 +104,7 @@ fn key_of(word: &[u8]) -> Option<Key>
         return None;
     }
     match <[u8; 56] as FromHex>::from_hex(word) {
-        Ok(bytes) => match PublicKey::read(&bytes) {
-            Ok(key) => Some(Key::Lms(key)),
-            Err(_) => None,
-        },
+        Ok(bytes) => Key::read(&bytes).ok(),
         Err(_) => None,
     }
 }

@@ -8,6 +8,7 @@ use Rattle.ff_ids.specs.declared.summary.RecordKey.TheVariants as keys
 use Rattle.records.specs.declared.Body.{Body}
 use Rattle.records.specs.declared.Body.TheVariants as bodies
 use Rattle.records.specs.Spelling.{note_bytes}
+use Rattle.records.specs.declared.keys.Key.TheVariants as key
 use Rattle.records.specs.Signing.{CheckedRecord}
 use Rattle.record_set.specs.Held.{key_of}
 use Rattle.record_set.specs.Picks.{fitting}
@@ -18,7 +19,7 @@ abbrev signed : Body → ℕ → CheckedRecord
 signed body n =
     record {
       rec = record { body = body; signature = replicate n 5 };
-      key = record { tree = H5; ots = W8; id = []; root = [] };
+      key = key.Lms (record { tree = H5; ots = W8; id = []; root = [] });
       tag = [];
       t = 1;
     }

@@ -1,7 +1,9 @@
 -- The keys under which records are signed: their bytes, and what verifies under them.
 use Rattle.std.specs.Prelude.{◌≡◌, ℕ, List, length, Result, Ok, Err}
 use Rattle.lms_tree.specs.declared.key.PublicKey.{PublicKey}
+use Rattle.lms_tree.specs.declared.kind.KeyFault.{KeyFault}
 use Rattle.lms_tree.specs.declared.kind.SigFault.{SigFault}
+use Rattle.lms_tree.specs.Keys as lms_keys
 use Rattle.lms_tree.specs.Lms as lms
 use Rattle.records.specs.declared.keys.Key.{Key}
 use Rattle.records.specs.declared.keys.Key.TheVariants as keys
@@ -11,6 +13,19 @@ use Rattle.records.specs.declared.keys.RecordFault.TheVariants as faults
 -- The key's bytes.
 abbrev pub key_bytes : Key → List ℕ
 key_bytes (keys.Lms key) = lms.key_bytes key
+
+-- a key of one level, as one under which records are signed
+abbrev pub lms_key : Result PublicKey KeyFault → Result Key KeyFault
+lms_key (Ok key) = Ok (keys.Lms key)
+lms_key (Err fault) = Err fault
+
+-- The key in these bytes, or why they are none.
+abbrev pub key_in : List ℕ → Result Key KeyFault
+key_in bytes = lms_key (lms.key_in bytes)
+
+-- The bytes are the key's, whose parts have their lengths.
+abbrev pub AreKey : List ℕ → Key → Type 0
+AreKey bytes (keys.Lms key) = lms_keys.AreKey bytes key
 
 -- The bytes are a signature of the message under the key.
 abbrev pub Verifies : Key → List ℕ → List ℕ → Type 0

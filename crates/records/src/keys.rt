@@ -3,11 +3,11 @@
 ghost use Rattle.std.specs.Prelude.{◌≡◌, ◌↔◌, ◌≤◌, IsOk};
 ghost use Rattle.arrayvec.specs.ArrayVec.{array_vec_len};
 ghost use Rattle.lms_tree.specs.Lms as lms;
-ghost use Rattle.records.specs.Keys.{HasParts, IsKey, Verifies, key_bytes, verdict_of};
+ghost use Rattle.records.specs.Keys.{HasParts, IsKey, Verifies, key_bytes, key_in, verdict_of};
 
 use crate::writing::put;
 use arrayvec::ArrayVec;
-use lms_tree::{PublicKey, SigFault, verify};
+use lms_tree::{KeyFault, PublicKey, SigFault, verify};
 
 /// A public key under which records are signed.
 #[derive(Clone, Copy, Debug, PartialEq, Eq)]
@@ -35,6 +35,16 @@ fn lms_bytes(key: &PublicKey) -> ArrayVec<u8, 56>
 }
 
 impl Key {
+    /// The key in these bytes.
+    pub fn read(bytes: &[u8]) -> Result<Key, KeyFault>
+        ensures { result ≡ key_in bytes.now }
+    {
+        match PublicKey::read(bytes) {
+            Ok(key) => Ok(Key::Lms(key)),
+            Err(fault) => Err(fault),
+        }
+    }
+
     /// The key's bytes.
     pub fn write(&self) -> ArrayVec<u8, 56>
         ensures bytes { result.items ≡ key_bytes self.now }

@@ -4,15 +4,17 @@ use Rattle.std.specs.Prelude.{is_some}
 use Rattle.ff_ids.specs.declared.Group.{Group}
 use Rattle.lms_ots.specs.declared.kind.OtsKind.{OtsKind}
 use Rattle.lms_tree.specs.declared.kind.TreeKind.{TreeKind}
-use Rattle.lms_tree.specs.Lms.{key_in}
-use Rattle.lms_tree.proofs.Keys.{key-long}
+use Rattle.lms_tree.specs.Lms as lms
+use Rattle.lms_tree.proofs.Keys as lms_proofs
+use Rattle.records.specs.Keys.{key_in}
+use Rattle.records.proofs.KeyParts.{key-long}
 use Rattle.line_text.specs.declared.bad_word.BadWord.{BadWord}
 use Rattle.line_text.specs.declared.bad_word.BadWord.TheVariants as bad
 use Rattle.line_text.specs.Fields.{bad_number, hex, is_within, number, number_in, number_that, or_zero}
 use Rattle.line_text.specs.Numbers.{number_of}
 use Rattle.line_text.specs.Shapes.{AllInRange}
 use Rattle.line_text.proofs.SpellingLemmas.{no_value}
-use Rattle.schedule_texts.specs.Shared.{IsGroup, group_shape, group_values, height, key, ots_of_width, tree_of_height, width}
+use Rattle.schedule_texts.specs.Shared.{IsGroup, group_shape, group_values, height, key, lms_key, ots_of_width, tree_of_height, width}
 use Rattle.schedule_texts.specs.KindTables.{height_within, width_within}
 
 abbrev none_bad : Option BadWord
@@ -62,6 +64,9 @@ a_height word k e is = number_in_range 5 15 (λ n. is_some (tree_of_height n)) w
 -- ## A key
 
 -- what are no 56 bytes are no key
+pub no_lms_key : (word : List ℕ) (w : BadWord) → hex 56 word ≡ Some w → lms_key word ≡ Some w
+no_lms_key word w e = no_value lms.key_in 56 lms_proofs.key-long word w e
+
 pub no_key : (word : List ℕ) (w : BadWord) → hex 56 word ≡ Some w → key word ≡ Some w
 no_key word w e = no_value key_in 56 key-long word w e
 

@@ -5,8 +5,10 @@ use Rattle.hex.proofs.OnLiterals.{hex_on_literals}
 use Rattle.ff_ids.specs.declared.Group.{Group}
 use Rattle.lms_ots.specs.declared.kind.OtsKind.TheVariants.{W1, W4}
 use Rattle.lms_tree.specs.declared.kind.TreeKind.TheVariants.{H5}
-use Rattle.lms_tree.specs.declared.key.PublicKey.{PublicKey}
+use Rattle.records.specs.declared.keys.Key.{Key}
+use Rattle.records.specs.declared.keys.Key.TheVariants as keys
 use Rattle.lms_tree.specs.Lms.{key_bytes, key_in, verdict_of}
+use Rattle.lms_tree.specs.declared.key.PublicKey.{PublicKey}
 use Rattle.secrets.specs.Secrets.{key_from}
 use Rattle.line_text.specs.declared.bad_word.BadWord.{BadWord}
 use Rattle.line_text.specs.declared.bad_word.BadWord.TheVariants as bad
@@ -25,20 +27,23 @@ at form text = judge (record { number = 7; form = form }) (text ++ 10 ∷ [])
 abbrev group_1 : Group
 group_1 = record { tag = replicate 16 0; t = 1; timeout = 4; period = 1; misses = 2 }
 
-abbrev some_key : PublicKey
-some_key = record { tree = H5; ots = W4; id = replicate 16 161; root = replicate 32 178 }
+abbrev authority : PublicKey
+authority = record { tree = H5; ots = W4; id = replicate 16 161; root = replicate 32 178 }
 
-abbrev other_key : PublicKey
-other_key = record { tree = H5; ots = W1; id = replicate 16 161; root = replicate 32 178 }
+abbrev some_key : Key
+some_key = keys.Lms authority
+
+abbrev other_key : Key
+other_key = keys.Lms (record { tree = H5; ots = W1; id = replicate 16 161; root = replicate 32 178 })
 
 abbrev key_digits : List ℕ
 key_digits = codes "0000000500000003a1a1a1a1a1a1a1a1a1a1a1a1a1a1a1a1b2b2b2b2b2b2b2b2b2b2b2b2b2b2b2b2b2b2b2b2b2b2b2b2b2b2b2b2b2b2b2b2"
 
 -- the text of member 2, where 1 has a certificate, and the own number this one
-abbrev one_named : Option PublicKey → KitText
-one_named own = kit.Body (record { group = group_1; member = 2; key = some_key }) some_key (false ∷ true ∷ false ∷ false ∷ []) own
+abbrev one_named : Option Key → KitText
+one_named own = kit.Body (record { group = group_1; member = 2; key = some_key }) authority (false ∷ true ∷ false ∷ false ∷ []) own
 
-abbrev certificate : ℕ → PublicKey → CertBody
+abbrev certificate : ℕ → Key → CertBody
 certificate m k = record { member = m; port = 1; key = k }
 
 heads : (at kit.Start (codes "fireflies 1 kit") ≡ Ok lines.Header)
@@ -60,7 +65,7 @@ unfolding judge_line key_in hex_on_literals
 owners = (refl, refl, refl, refl, refl)
 
 abbrev authorized : KitText
-authorized = kit.Authorized (record { group = group_1; member = 2; key = some_key }) some_key
+authorized = kit.Authorized (record { group = group_1; member = 2; key = some_key }) authority
 
 ticks : (at authorized (codes "tick 1") ≡ Ok (lines.Tick 1))
     × (at authorized (codes "tick 60000") ≡ Ok (lines.Tick 60000))
@@ -97,6 +102,6 @@ ends : (at (one_named (Some some_key)) (codes "end") ≡ Ok lines.End)
 unfolding judge_line key_in hex_on_literals key_bytes
 ends = (refl, refl, refl, refl, refl)
 
-named : (certifying (certificate 2 some_key) (one_named None) ≡ kit.Body (record { group = group_1; member = 2; key = some_key }) some_key (false ∷ true ∷ true ∷ false ∷ []) (Some some_key))
-    × (certifying (certificate 3 other_key) (one_named (Some some_key)) ≡ kit.Body (record { group = group_1; member = 2; key = some_key }) some_key (false ∷ true ∷ false ∷ true ∷ []) (Some some_key))
+named : (certifying (certificate 2 some_key) (one_named None) ≡ kit.Body (record { group = group_1; member = 2; key = some_key }) authority (false ∷ true ∷ true ∷ false ∷ []) (Some some_key))
+    × (certifying (certificate 3 other_key) (one_named (Some some_key)) ≡ kit.Body (record { group = group_1; member = 2; key = some_key }) authority (false ∷ true ∷ false ∷ true ∷ []) (Some some_key))
 named = (refl, refl)

@@ -6,6 +6,7 @@ use Rattle.lms_tree.specs.Lms.{public_of}
 use Rattle.records.specs.declared.Body.{Body}
 use Rattle.records.specs.declared.Body.TheVariants.{Certificate}
 use Rattle.records.specs.declared.CertBody.{CertBody}
+use Rattle.records.specs.declared.keys.Key.TheVariants as keys
 use Rattle.line_text.specs.declared.bad_word.BadWord.{BadWord}
 use Rattle.line_text.specs.Answers.{Progress, next_line}
 use Rattle.line_text.specs.Frame as frame
@@ -46,7 +47,7 @@ abbrev pub after : KitText → KitLine → KitText
 after form lines.Header = kit.Headed
 after form (lines.Group g) = kit.Grouped g
 after (kit.Grouped g) (lines.Kinds kinds) = kit.Kinded g kinds
-after (kit.Kinded g kinds) (lines.Own m secret own_key) = kit.Owned (record { group = g; member = m; key = public_of own_key })
+after (kit.Kinded g kinds) (lines.Own m secret own_key) = kit.Owned (record { group = g; member = m; key = keys.Lms (public_of own_key) })
 after (kit.Owned owner) (lines.Authority authority) = kit.Authorized owner authority
 after (kit.Authorized owner authority) (lines.Tick millis) = nobody owner authority
 after form (lines.Cert c) = certified_by c.rec.body form

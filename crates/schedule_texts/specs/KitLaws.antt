@@ -5,9 +5,11 @@ use Rattle.std.proofs.lemmas.Bool.{and_parts, not-false, not-true}
 use Rattle.std.proofs.lemmas.Slice.Eq.{bytes_eq-Decides}
 use Rattle.ff_ids.specs.declared.Group.{Group}
 use Rattle.lms_tree.specs.declared.key.PublicKey.{PublicKey}
-use Rattle.lms_tree.specs.declared.kind.SigFault.{SigFault}
-use Rattle.lms_tree.specs.Lms.{key_bytes, verdict_of}
 use Rattle.records.specs.declared.Body.TheVariants.{Certificate}
+use Rattle.records.specs.declared.keys.Key.{Key}
+use Rattle.records.specs.declared.keys.Key.TheVariants as keys
+use Rattle.records.specs.declared.keys.RecordFault.{RecordFault}
+use Rattle.records.specs.Keys.{key_bytes, verdict_of}
 use Rattle.records.specs.Signing.{signed_bytes}
 use Rattle.line_text.specs.declared.bad_word.BadWord.TheVariants as bad
 use Rattle.line_text.specs.Frame.{row_line}
@@ -59,23 +61,23 @@ kit-reads _ _ args = refl
 -- The number of the certificate has none yet, and the signature is good.
 pub record IsNewlySigned (g : Group) (authority : PublicKey) (named : List Bool) (vs : Values (fields words.Cert)) : Type 0 where
   pub new : is_named named vs.0 ≡ false
-  pub verifies : verdict_of authority (signed_bytes g.tag g.t (Certificate (cert_of vs.0 vs.1.0 vs.1.1.0))) vs.1.1.1.0 ≡ Ok tt
+  pub verifies : verdict_of (keys.Lms authority) (signed_bytes g.tag g.t (Certificate (cert_of vs.0 vs.1.0 vs.1.1.0))) vs.1.1.1.0 ≡ Ok tt
 
-verdict_ok : (r : Result (Unit {0}) SigFault) → is_ok r ≡ true → r ≡ Ok tt
+verdict_ok : (r : Result (Unit {0}) RecordFault) → is_ok r ≡ true → r ≡ Ok tt
 verdict_ok (Ok x) e = refl
 verdict_ok (Err fault) e = absurd cc
 
 pub cert-whole : (g : Group) (authority : PublicKey) (named : List Bool) (vs : Values (fields words.Cert)) → cert_fault g authority named vs ≡ None → IsNewlySigned g authority named vs
 cert-whole g authority named vs none =
-    let verdict = verdict_of authority (signed_bytes g.tag g.t (Certificate (cert_of vs.0 vs.1.0 vs.1.1.0))) vs.1.1.1.0 in
+    let verdict = verdict_of (keys.Lms authority) (signed_bytes g.tag g.t (Certificate (cert_of vs.0 vs.1.0 vs.1.1.0))) vs.1.1.1.0 in
     let good = and_parts (not (is_named named vs.0)) (is_ok verdict) (not-false _ (passed bad.Cert _ none)) in
     record { new = not-true _ good.0; verifies = verdict_ok verdict good.1 }
 
--- The certificate of the own number has the 56 bytes of the own key.
-abbrev pub IsOwned : PublicKey → Option PublicKey → Type 0
+-- The certificate of the own number has the bytes of the own key.
+abbrev pub IsOwned : Key → Option Key → Type 0
 IsOwned own_key (Some k) = key_bytes k ≡ key_bytes own_key
 IsOwned own_key None = ⊥
 
-pub end-whole : (own_key : PublicKey) (own : Option PublicKey) → end_fault own_key own ≡ None → IsOwned own_key own
+pub end-whole : (own_key : Key) (own : Option Key) → end_fault own_key own ≡ None → IsOwned own_key own
 end-whole own_key None none = absurd cc
 end-whole own_key (Some k) none = (bytes_eq-Decides (key_bytes k) (key_bytes own_key)).0 (not-false _ (passed bad.OwnKey _ none))

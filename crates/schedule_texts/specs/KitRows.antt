@@ -7,10 +7,12 @@ use Rattle.lms_ots.specs.declared.kind.OtsKind.TheVariants.{W1}
 use Rattle.lms_tree.specs.declared.kind.TreeKind.TheVariants.{H5}
 use Rattle.lms_tree.specs.declared.key.PublicKey.{PublicKey}
 use Rattle.lms_tree.specs.declared.secret.Secret.{Secret}
-use Rattle.lms_tree.specs.Lms.{key_bytes, verdict_of}
 use Rattle.records.specs.declared.Body.{Body}
 use Rattle.records.specs.declared.Body.TheVariants.{Certificate}
 use Rattle.records.specs.declared.CertBody.{CertBody}
+use Rattle.records.specs.declared.keys.Key.{Key}
+use Rattle.records.specs.declared.keys.Key.TheVariants as keys
+use Rattle.records.specs.Keys.{key_bytes, verdict_of}
 use Rattle.records.specs.Signing.{CheckedRecord, signed_bytes}
 use Rattle.secrets.specs.Secrets.{key_from}
 use Rattle.line_text.specs.declared.bad_word.BadWord.{BadWord}
@@ -21,7 +23,7 @@ use Rattle.line_text.specs.Shapes.{◌and◌, Field, Fields, Makes, Values, byte
 use Rattle.line_text.specs.Tables as table
 use Rattle.line_text.specs.Tables.{Header, Line, Parts, Table}
 use Rattle.schedule_texts.specs.declared.line.Kinds.{Kinds}
-use Rattle.schedule_texts.specs.Shared.{any_key, cert_of, group_fields, group_in, group_of, group_shape, group_values, key_field, kinds_fields, kinds_in, kinds_of, kinds_shape, kinds_values, port_field}
+use Rattle.schedule_texts.specs.Shared.{any_lms_key, cert_of, group_fields, group_in, group_of, group_shape, group_values, key_field, lms_key_field, kinds_fields, kinds_in, kinds_of, kinds_shape, kinds_values, port_field}
 use Rattle.schedule_texts.specs.declared.kit.KitText.{KitText}
 use Rattle.schedule_texts.specs.declared.kit.KitText.TheVariants as kit
 use Rattle.schedule_texts.specs.declared.kit_line.KitLine.{KitLine}
@@ -71,7 +73,7 @@ abbrev pub fields : LineWord → Fields
 fields words.Group = group_shape
 fields words.Kinds = kinds_shape
 fields words.Own = member_field and bytes_of 32 and no_more
-fields words.Authority = key_field and no_more
+fields words.Authority = lms_key_field and no_more
 fields words.Tick = number_from 1 60000 and no_more
 fields words.Cert = member_field and port_field and key_field and signature_field and no_more
 fields words.End = no_more
@@ -85,7 +87,7 @@ is_named named m = slice_index_or named m false
 -- The number has no certificate yet, and the signature verifies under the authority's key in the group.
 abbrev pub is_good : Group → PublicKey → List Bool → CertBody → List ℕ → Bool
 is_good g authority named cert signed_by =
-    not (is_named named cert.member) && is_ok (verdict_of authority (signed_bytes g.tag g.t (Certificate cert)) signed_by)
+    not (is_named named cert.member) && is_ok (verdict_of (keys.Lms authority) (signed_bytes g.tag g.t (Certificate cert)) signed_by)
 
 -- M PORT KEY SIGNATURE
 abbrev pub cert_fault : Group → PublicKey → List Bool → Values (fields words.Cert) → Option BadWord
@@ -93,11 +95,11 @@ cert_fault g authority named vs =
     bad_where bad.Cert (not (is_good g authority named (cert_of vs.0 vs.1.0 vs.1.1.0) vs.1.1.1.0))
 
 -- The certificate of the own number has the own key.
-abbrev pub is_owned : PublicKey → Option PublicKey → Bool
+abbrev pub is_owned : Key → Option Key → Bool
 is_owned own_key None = false
 is_owned own_key (Some k) = bytes_eq (key_bytes k) (key_bytes own_key)
 
-abbrev pub end_fault : PublicKey → Option PublicKey → Option BadWord
+abbrev pub end_fault : Key → Option Key → Option BadWord
 end_fault own_key own = bad_where bad.OwnKey (not (is_owned own_key own))
 
 -- A certificate with a fault is refused, and an end where the own certificate is missing.
@@ -117,7 +119,7 @@ own_key form secret = key_from W1 H5 secret
 -- a certificate, as what was checked under the authority's key in the group
 abbrev pub checked_as : Group → PublicKey → CertBody → List ℕ → CheckedRecord
 checked_as g authority cert signed_by =
-    record { rec = record { body = Certificate cert; signature = signed_by }; key = authority; tag = g.tag; t = g.t }
+    record { rec = record { body = Certificate cert; signature = signed_by }; key = keys.Lms authority; tag = g.tag; t = g.t }
 
 -- the group and the authority of a certificate; above the certificates, where none may stand, some
 abbrev pub group_above : KitText → Group
@@ -126,7 +128,7 @@ group_above form = group_of 0 0 0 0 []
 
 abbrev pub authority_above : KitText → PublicKey
 authority_above (kit.Body owner authority named own) = authority
-authority_above form = any_key
+authority_above form = any_lms_key
 
 abbrev pub line : (form : KitText) (word : LineWord) → Makes (fields word) KitLine
 line form words.Group = λ t timeout period misses tag.

@@ -9,9 +9,13 @@ use Rattle.lms_tree.specs.Kinds as tree
 use Rattle.lms_tree.specs.declared.kind.TreeKind.{TreeKind}
 use Rattle.lms_tree.specs.declared.kind.TreeKind.TheVariants.{H5}
 use Rattle.lms_tree.specs.declared.key.PublicKey.{PublicKey}
-use Rattle.lms_tree.specs.Keys.{AreKey}
-use Rattle.lms_tree.specs.Lms.{key_in}
-use Rattle.lms_tree.proofs.Keys.{key-again, key-are}
+use Rattle.lms_tree.specs.Keys as lms_keys
+use Rattle.lms_tree.specs.Lms as lms
+use Rattle.lms_tree.proofs.Keys as lms_proofs
+use Rattle.records.specs.declared.keys.Key.{Key}
+use Rattle.records.specs.declared.keys.Key.TheVariants as keys
+use Rattle.records.specs.Keys.{AreKey, key_in}
+use Rattle.records.proofs.KeyParts.{key-again, key-are}
 use Rattle.records.specs.declared.CertBody.{CertBody}
 use Rattle.line_text.specs.Fields.{Test}
 use Rattle.line_text.specs.Shapes.{◌and◌, Field, Fields, Values, bytes_as, bytes_of, line_from, no_more, number_as, number_from, test, tests, value}
@@ -106,8 +110,21 @@ abbrev pub port : Test
 port word = test port_field word
 
 -- a key in 56 bytes; where a word has none, this one stands for it, and the word is refused
-abbrev pub any_key : PublicKey
-any_key = record { tree = H5; ots = W1; id = []; root = [] }
+abbrev pub any_lms_key : PublicKey
+any_lms_key = record { tree = H5; ots = W1; id = []; root = [] }
+
+abbrev pub lms_key_field : Field
+lms_key_field = bytes_as lms.key_in any_lms_key lms_keys.AreKey lms_proofs.key-are lms_proofs.key-again
+
+abbrev pub lms_key : Test
+lms_key word = test lms_key_field word
+
+abbrev pub lms_key_in_word : List ℕ → PublicKey
+lms_key_in_word word = value lms_key_field word
+
+-- the same of a member's key
+abbrev pub any_key : Key
+any_key = keys.Lms any_lms_key
 
 abbrev pub key_field : Field
 key_field = bytes_as key_in any_key AreKey key-are key-again
@@ -115,8 +132,8 @@ key_field = bytes_as key_in any_key AreKey key-are key-again
 abbrev pub key : Test
 key word = test key_field word
 
-abbrev pub key_in_word : List ℕ → PublicKey
+abbrev pub key_in_word : List ℕ → Key
 key_in_word word = value key_field word
 
-abbrev pub cert_of : ℕ → ℕ → PublicKey → CertBody
+abbrev pub cert_of : ℕ → ℕ → Key → CertBody
 cert_of m at own = record { member = m; port = at; key = own }

@@ -13,7 +13,7 @@ use crate::{Kinds, read_group, read_kinds};
 use ff_ids::{Group, MEMBERS, MemberId};
 use line_text::{BadWord, Form, LineFault, TableForm, Words, judge_by_table};
 use lms_tree::PublicKey;
-use records::{Body, CertBody};
+use records::{Body, CertBody, Key};
 use std::alloc::Global;
 
 /// Whom the text is for.
@@ -22,7 +22,7 @@ pub struct Owner {
     pub group: Group,
     pub member: MemberId,
     /// The public half of the own key.
-    pub key: PublicKey,
+    pub key: Key,
 }
 
 /// What has been read of the text.
@@ -56,23 +56,23 @@ pub enum KitText {
         owner: Owner,
         authority: PublicKey,
         named: [bool; MEMBERS as usize],
-        own: Option<PublicKey>,
+        own: Option<Key>,
     },
     /// The line `end`.
     Ended,
 }
 
 /// Whether the certificate of the own number has the own key.
-fn is_owned(owner: &Owner, own: &Option<PublicKey>) -> bool
+fn is_owned(owner: &Owner, own: &Option<Key>) -> bool
     ensures { result ≡ is_owned owner.now.key own.now }
 {
     match own {
-        Some(key) => key.write() == owner.key.write(),
+        Some(key) => key.write().as_slice() == owner.key.write().as_slice(),
         None => false,
     }
 }
 
-fn end_line(owner: &Owner, own: &Option<PublicKey>, args: Words) -> Result<KitLine, BadWord>
+fn end_line(owner: &Owner, own: &Option<Key>, args: Words) -> Result<KitLine, BadWord>
     ensures { result ≡ whole_line [] (λ _. end_fault owner.now.key own.now) (λ _. End) args.entry }
 {
     args.exactly(0)?;
@@ -84,7 +84,7 @@ fn end_line(owner: &Owner, own: &Option<PublicKey>, args: Words) -> Result<KitLi
 }
 
 /// The key in the certificate of the own number, behind one more certificate.
-fn own_key(me: MemberId, cert: &CertBody, own: Option<PublicKey>) -> Option<PublicKey>
+fn own_key(me: MemberId, cert: &CertBody, own: Option<Key>) -> Option<Key>
     ensures { result ≡ (if cert.now.member == me then Some cert.now.key else own) }
 {
     if cert.member == me {
@@ -236,7 +236,7 @@ impl Form for KitText {
                 owner: Owner {
                     group,
                     member: *member,
-                    key: key.public(),
+                    key: Key::Lms(key.public()),
                 },
             },
             (KitText::Owned { owner }, KitLine::Authority(authority)) => KitText::Authorized {

@@ -7,7 +7,8 @@ ghost use Rattle.line_text.specs.Fields.{hex_of};
 ghost use Rattle.line_text.specs.Frame.{behind, first_word, whole_line};
 ghost use Rattle.records.specs.declared.Body.TheVariants.{Certificate};
 ghost use Rattle.records.specs.Signing.{signed_bytes};
-ghost use Rattle.lms_tree.specs.Lms.{Verifies};
+ghost use Rattle.records.specs.Keys.{Verifies};
+ghost use Rattle.records.specs.declared.keys.Key.TheVariants as keys;
 ghost use Rattle.schedule_texts.specs.KitRows.{TakesMemory, cert_fault_in, cert_line, fields_of, is_good, signature};
 
 use crate::kit_line::{KitLine, LineWord};
@@ -17,8 +18,8 @@ use ff_ids::{Group, MEMBERS};
 use fields::Bytes;
 use hex::decode_to_slice;
 use line_text::{BadWord, LineFault, Words};
-use lms_tree::{PublicKey, verify};
-use records::{Body, CertBody, Checked, Record, signed_bytes};
+use lms_tree::PublicKey;
+use records::{Body, CertBody, Checked, Key, Record, signed_bytes};
 use std::alloc::Global;
 
 /// The greatest length of a signature: a one-time signature of width 1 in a tree of height 15.
@@ -64,11 +65,11 @@ fn is_good(
 ) -> bool
     ensures value { result ≡ is_good group.now authority.now named.now cert.now signature.now }
     ensures verified { result ≡ true
-        → Verifies authority.now (signed_bytes group.now.tag group.now.t (Certificate cert.now))
+        → Verifies (keys.Lms authority.now) (signed_bytes group.now.tag group.now.t (Certificate cert.now))
         signature.now }
 {
     let signed = signed_bytes(group, &Body::Certificate(*cert));
-    let verdict = verify(authority, signed.as_slice(), signature);
+    let verdict = Key::Lms(*authority).verify(signed.as_slice(), signature);
     !named[cert.member.get() as usize] && verdict.is_ok()
 }
 
@@ -100,5 +101,9 @@ pub(crate) fn cert_line(
         body: Body::Certificate(cert),
         signature,
     };
-    Ok(KitLine::Cert(Checked::from_signed(group, authority, rec)))
+    Ok(KitLine::Cert(Checked::from_signed(
+        group,
+        &Key::Lms(*authority),
+        rec,
+    )))
 }

@@ -7,7 +7,7 @@ ghost use Rattle.line_text.specs.Frame.{behind, fields_line, first_word, word_or
 ghost use Rattle.schedule_texts.specs.KitRows.{TakesMemory, authority_line, fields_of, line_word, member, own_line, tick_line};
 
 use crate::kit_line::{KitLine, LineWord};
-use crate::{Kinds, take_key};
+use crate::{Kinds, take_lms_key};
 use ff_ids::{LAST_MEMBER, MemberId};
 use line_text::{BadWord, LineFault, Words};
 use secrets::make_key;
@@ -68,7 +68,7 @@ pub(crate) fn authority_line(args: Words) -> Result<KitLine, BadWord>
     ensures { result ≡ fields_line (fields_of LineWord.Authority) authority_line args.entry }
 {
     let mut args = args.exactly(1)?;
-    let key = take_key(&mut args)?;
+    let key = take_lms_key(&mut args)?;
     Ok(KitLine::Authority(key))
 }
 

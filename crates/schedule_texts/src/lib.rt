@@ -20,4 +20,4 @@ pub use line::{Kinds, RosterLine, SecretLine};
 pub use migrate::MigrateText;
 pub use roster::RosterText;
 pub use secret::SecretText;
-pub use shared::{read_group, read_kinds, read_secret, take_key, take_port};
+pub use shared::{read_group, read_kinds, read_secret, take_key, take_lms_key, take_port};

@@ -4,13 +4,14 @@ ghost use Rattle.std.specs.Prelude.{◌≡◌, ◌<◌, IfOk, IfSome};
 ghost use Rattle.line_text.specs.Answers.{refusal};
 ghost use Rattle.line_text.specs.Fields.{number_in};
 ghost use Rattle.line_text.specs.Frame.{behind, fields_line, first_word};
-ghost use Rattle.schedule_texts.specs.Shared.{group_fields, group_in, height, key, key_in_word, kinds_fields, kinds_in, ots_in_word, ots_of_width, port, secret_fields, secret_in, tree_in_word, tree_of_height, width};
+ghost use Rattle.schedule_texts.specs.Shared.{group_fields, group_in, height, key, key_in_word, lms_key, lms_key_in_word, kinds_fields, kinds_in, ots_in_word, ots_of_width, port, secret_fields, secret_in, tree_in_word, tree_of_height, width};
 
 use crate::line::Kinds;
 use ff_ids::{Group, MAX_TOLERANCE};
 use line_text::{BadWord, Words};
 use lms_ots::OtsKind;
 use lms_tree::{PublicKey, TreeKind};
+use records::Key;
 
 /// The group that the words behind `group` are.
 pub fn read_group(args: Words) -> Result<Group, BadWord>
@@ -106,15 +107,29 @@ pub fn take_port(words: &mut Words) -> Result<u16, BadWord>
     Ok(number as u16)
 }
 
-/// Takes a public key in 56 bytes, whose two types are known.
+/// Takes a public key of one level in 56 bytes, whose two types are known.
+#[tactic(auto, using(crate::proofs::FieldLemmas::no_lms_key))]
+pub fn take_lms_key(words: &mut Words) -> Result<PublicKey, BadWord>
+    ensures refused { lms_key (first_word words.old) ≡ refusal result }
+    ensures value { IfOk result (λ k. k ≡ lms_key_in_word (first_word words.old)) }
+    ensures moved { words.new ≡ behind words.old }
+{
+    let bytes = words.bytes::<56>()?;
+    match PublicKey::read(&bytes) {
+        Ok(key) => Ok(key),
+        Err(_) => Err(BadWord::Limit),
+    }
+}
+
+/// Takes the public key of a member.
 #[tactic(auto, using(crate::proofs::FieldLemmas::no_key))]
-pub fn take_key(words: &mut Words) -> Result<PublicKey, BadWord>
+pub fn take_key(words: &mut Words) -> Result<Key, BadWord>
     ensures refused { key (first_word words.old) ≡ refusal result }
     ensures value { IfOk result (λ k. k ≡ key_in_word (first_word words.old)) }
     ensures moved { words.new ≡ behind words.old }
 {
     let bytes = words.bytes::<56>()?;
-    match PublicKey::read(&bytes) {
+    match Key::read(&bytes) {
         Ok(key) => Ok(key),
         Err(_) => Err(BadWord::Limit),
     }

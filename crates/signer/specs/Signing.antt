@@ -8,6 +8,7 @@ use Rattle.lms_tree.specs.Leaves.{index_count}
 use Rattle.lms_tree.specs.Lms.{public_of, signature_of}
 use Rattle.records.specs.declared.Body.{Body}
 use Rattle.records.specs.declared.Body.TheVariants.{Certificate, Note, Accusation}
+use Rattle.records.specs.declared.keys.Key.TheVariants as keys
 use Rattle.records.specs.Signing.{signed_bytes, CheckedRecord}
 use Rattle.epoch_store.specs.declared.Stored.{Stored}
 use Rattle.epoch_store.specs.declared.seat.Seat.{Seat}
@@ -71,7 +72,7 @@ after_signing s body (Err StoreFault) = record s { closed = true }
 abbrev pub signed_by : Group → Secret → ℕ → Body → CheckedRecord
 signed_by group key index body = record {
   rec = record { body = body; signature = signature_of key index (signed_bytes group.tag group.t body) };
-  key = public_of key;
+  key = keys.Lms (public_of key);
   tag = group.tag;
   t = group.t;
 }

@@ -28,7 +28,7 @@ use ff_ids::{AccBody, Epoch, Group, Mask, MemberId, NoteBody};
 use fields::Bytes;
 use lms_tree::{Leaves, Tree};
 use ports::Disk;
-use records::{Body, CertBody, Checked, Record, signed_bytes};
+use records::{Body, CertBody, Checked, Key, Record, signed_bytes};
 use std::alloc::Global;
 use std::marker::Model;
 use thiserror::Error;
@@ -296,5 +296,5 @@ fn spend_leaf(
         body,
         signature: Bytes::from_vec(signature),
     };
-    Checked::from_signed(group, &tree.public(), rec)
+    Checked::from_signed(group, &Key::Lms(tree.public()), rec)
 }
