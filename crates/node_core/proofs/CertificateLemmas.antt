@@ -12,18 +12,20 @@ use Rattle.ff_ids.specs.declared.TheConstants.{MAX_TOLERANCE}
 use Rattle.ff_ids.specs.declared.Group.{Group}
 use Rattle.lms_tree.specs.declared.key.PublicKey.{PublicKey}
 use Rattle.lms_tree.specs.declared.secret.Secret.{Secret}
-use Rattle.lms_tree.specs.Lms.{Verifies, verdict_of, public_of}
 use Rattle.records.specs.declared.CertBody.{CertBody}
 use Rattle.records.specs.declared.Body.{Body}
 use Rattle.records.specs.declared.Body.TheVariants.{Certificate, Note, Accusation}
 use Rattle.records.specs.declared.Record.{Record}
+use Rattle.records.specs.declared.keys.Key.{Key}
+use Rattle.records.specs.declared.keys.Key.TheVariants as keys
+use Rattle.records.specs.Keys.{Verifies, verdict_of}
 use Rattle.records.specs.Signing.{CheckedRecord, IsChecked, signed_bytes}
 use Rattle.validate.proofs.VerdictLemmas.{good-verdict}
 use Rattle.node_rules.specs.Nodes.{Setting}
 use Rattle.node_rules.specs.Lives.{AreCertificates, is_certificate_for}
 use Rattle.node_rules.specs.Vouching.{IsCertifiedBy, OwnSignaturesVerify}
 use Rattle.lms_tree.specs.Leaves.{index_count}
-use Rattle.signer.specs.Signing.{SignerState}
+use Rattle.signer.specs.Signing.{SignerState, public_key}
 use Rattle.node_core.proofs.OwnKeyLemmas.{own-verify}
 use Rattle.node_core.specs.declared.kit.Kit.{Kit}
 use Rattle.validate.specs.Certified.{Certificates, certificate_of as kept_certificate}
@@ -47,17 +49,17 @@ cons-all P x xs first rest = λ k d lt. at k d lt
     at (suc k) d lt = rest k d (omega (arith, lt))
 
 -- certificates that were checked in a group are certificates for its tolerance
-pub for-tolerance : (group : Group) (authority : PublicKey) (xs : List CheckedRecord) → All (IsCheckedIn group authority) xs → AreApart (recs_of xs) → All (IsCertificateFor group.t) xs
+pub for-tolerance : (group : Group) (authority : Key) (xs : List CheckedRecord) → All (IsCheckedIn group authority) xs → AreApart (recs_of xs) → All (IsCertificateFor group.t) xs
 for-tolerance group authority [] checked apart = λ k d lt. absurd (omega (arith, lt))
 for-tolerance group authority (x ∷ xs) checked apart =
     cons-all (IsCertificateFor group.t) x xs (record { cert = apart.0.cert; body = apart.0.body; tolerance = (head-of (IsCheckedIn group authority) x xs checked).tolerance })
     (for-tolerance group authority xs (tail-of (IsCheckedIn group authority) x xs checked) apart.1)
 
-setting-authority : (s : Setting) (g : Group) (me : ℕ) (a : PublicKey) (k : Secret) → s ≡ setting_of g me a k → s.authority ≡ a
+setting-authority : (s : Setting) (g : Group) (me : ℕ) (a : PublicKey) (k : Secret) → s ≡ setting_of g me a k → s.authority ≡ keys.Lms a
 unfolding setting_of
 setting-authority s g me a k e = ap (λ x. x.authority) e
 
-setting-verifies : (s : Setting) (g : Group) (me : ℕ) (a : PublicKey) (k : Secret) (key : PublicKey) (r : Record) → s ≡ setting_of g me a k → s.verifies key r ≡ is_ok (verdict_of key (signed_bytes g.tag g.t r.body) r.signature)
+setting-verifies : (s : Setting) (g : Group) (me : ℕ) (a : PublicKey) (k : Secret) (key : Key) (r : Record) → s ≡ setting_of g me a k → s.verifies key r ≡ is_ok (verdict_of key (signed_bytes g.tag g.t r.body) r.signature)
 unfolding setting_of
 setting-verifies s g me a k key r e = ap (λ x. x.verifies key r) e
 
@@ -66,20 +68,20 @@ unfolding setting_of
 setting-indexes s g me a k e = ap (λ x. x.indexes) e
 
 -- what was checked under the authority's key verifies under it
-verifies-checked : (s : Setting) (g : Group) (me : ℕ) (a : PublicKey) (k : Secret) (x : CheckedRecord) → s ≡ setting_of g me a k → IsCheckedIn g a x → IsChecked x → s.verifies s.authority x.rec ≡ true
+verifies-checked : (s : Setting) (g : Group) (me : ℕ) (a : PublicKey) (k : Secret) (x : CheckedRecord) → s ≡ setting_of g me a k → IsCheckedIn g (keys.Lms a) x → IsChecked x → s.verifies s.authority x.rec ≡ true
 verifies-checked s g me a k x e in_group good =
-    let signed : Verifies a (signed_bytes g.tag g.t x.rec.body) x.rec.signature =
+    let signed : Verifies (keys.Lms a) (signed_bytes g.tag g.t x.rec.body) x.rec.signature =
     subst (λ key. Verifies key (signed_bytes g.tag g.t x.rec.body) x.rec.signature) in_group.under
     (subst (λ tag. Verifies x.key (signed_bytes tag g.t x.rec.body) x.rec.signature) in_group.tag
     (subst (λ t. Verifies x.key (signed_bytes x.tag t x.rec.body) x.rec.signature) in_group.tolerance good.signed)) in
-    ap (λ key. s.verifies key x.rec) (setting-authority s g me a k e) ∙ setting-verifies s g me a k a x.rec e ∙ good-verdict a (signed_bytes g.tag g.t x.rec.body) x.rec.signature signed
+    ap (λ key. s.verifies key x.rec) (setting-authority s g me a k e) ∙ setting-verifies s g me a k (keys.Lms a) x.rec e ∙ good-verdict (keys.Lms a) (signed_bytes g.tag g.t x.rec.body) x.rec.signature signed
 
-all-certified : (s : Setting) (own : PublicKey) (g : Group) (me : ℕ) (a : PublicKey) (k : Secret) (xs : List CheckedRecord) → s ≡ setting_of g me a k → All (IsCheckedIn g a) xs → AllByRecursion IsChecked xs
+all-certified : (s : Setting) (own : Key) (g : Group) (me : ℕ) (a : PublicKey) (k : Secret) (xs : List CheckedRecord) → s ≡ setting_of g me a k → All (IsCheckedIn g (keys.Lms a)) xs → AllByRecursion IsChecked xs
     → AllByRecursion (HasKey me own) (recs_of xs) → AllByRecursion (IsCertifiedBy s own) (recs_of xs)
-all-certified s own g me a k [] e checked good keys = tt
-all-certified s own g me a k (x ∷ xs) e checked good keys = (
-  (verifies-checked s g me a k x e (head-of (IsCheckedIn g a) x xs checked) good.0, λ c is who. keys.0 c is (who ∙ setting-me s g me a k e)),
-  all-certified s own g me a k xs e (tail-of (IsCheckedIn g a) x xs checked) good.1 keys.1,
+all-certified s own g me a k [] e checked good held = tt
+all-certified s own g me a k (x ∷ xs) e checked good held = (
+  (verifies-checked s g me a k x e (head-of (IsCheckedIn g (keys.Lms a)) x xs checked) good.0, λ c is who. held.0 c is (who ∙ setting-me s g me a k e)),
+  all-certified s own g me a k xs e (tail-of (IsCheckedIn g (keys.Lms a)) x xs checked) good.1 held.1,
 )
 
 pub apart-certificates : (records : List Record) → AreApart records → AreCertificates records
@@ -87,8 +89,8 @@ apart-certificates [] apart = tt
 apart-certificates (r ∷ records) apart = ((apart.0.cert, apart.0.body), apart-certificates records apart.1)
 
 -- what a sound kit gives the theorem on records that vouch for a life
-pub vouchable : (s : Setting) (kit : Kit) (signer : SignerState) → s ≡ setting_of kit.group kit.me kit.authority signer.key → IsKit kit (public_of signer.key) → signer.state.next < index_count signer.key
-    → IsVouchable s (public_of signer.key) (recs_of kit.certificates.items) signer.state
+pub vouchable : (s : Setting) (kit : Kit) (signer : SignerState) → s ≡ setting_of kit.group kit.me kit.authority signer.key → IsKit kit (public_key signer.key) → signer.state.next < index_count signer.key
+    → IsVouchable s (public_key signer.key) (recs_of kit.certificates.items) signer.state
 vouchable s kit signer e k left =
     let key : Secret = signer.key in
     let group : s.group ≡ kit.group = setting-group s kit.group kit.me kit.authority key e in
@@ -99,8 +101,8 @@ vouchable s kit signer e k left =
         all = apart-certificates (recs_of kit.certificates.items) k.certificates.apart;
         own = subst (λ (m : ℕ). list_any (λ r. is_certificate_for m r.body) (recs_of kit.certificates.items) ≡ true) (sym me) k.certificates.among;
       };
-      certified = all-certified s (public_of key) kit.group kit.me kit.authority key kit.certificates.items e k.checked k.certificates.verify k.certificates.keys;
-      signatures = subst (λ (x : Setting). OwnSignaturesVerify x (public_of key)) (sym e) (own-verify kit.group kit.me kit.authority key);
+      certified = all-certified s (public_key key) kit.group kit.me kit.authority key kit.certificates.items e k.checked k.certificates.verify k.certificates.keys;
+      signatures = subst (λ (x : Setting). OwnSignaturesVerify x (public_key key)) (sym e) (own-verify kit.group kit.me kit.authority key);
       left = subst (λ (n : ℕ). signer.state.next < n) (sym (setting-indexes s kit.group kit.me kit.authority key e)) left;
     }
 

@@ -20,6 +20,8 @@ use Rattle.node_core.specs.declared.starting.Ready.{Ready}
 use Rattle.node_core.specs.declared.starting.Parts.{Parts}
 use Rattle.ff_ids.specs.declared.Group.{Group}
 use Rattle.lms_tree.specs.declared.key.PublicKey.{PublicKey}
+use Rattle.records.specs.declared.keys.Key.{Key}
+use Rattle.records.specs.declared.keys.Key.TheVariants as key_kinds
 use Rattle.signer.specs.Signing.{SignerState, stored_after, next_note, signed_record}
 use Rattle.signer.specs.Lives.{Spent}
 use Rattle.lms_tree.specs.Leaves.{index_count}
@@ -126,7 +128,7 @@ is_store_fault (Err faults.Ended) = false
 -- ---- the kit
 
 -- It was checked in the group, under this key.
-pub record IsCheckedIn (group : Group) (authority : PublicKey) (x : CheckedRecord) : Type 0 where
+pub record IsCheckedIn (group : Group) (authority : Key) (x : CheckedRecord) : Type 0 where
   pub under : x.key ≡ authority
   pub tag : x.tag ≡ group.tag
   pub tolerance : x.t ≡ group.t
@@ -137,7 +139,7 @@ is_of_other m (Certificate c) = not (nat_eq c.member m)
 is_of_other m other = false
 
 -- If it is the member's certificate, it has this key.
-abbrev pub HasKey : ℕ → PublicKey → Record → Type 0
+abbrev pub HasKey : ℕ → Key → Record → Type 0
 HasKey me own r = (c : CertBody) → r.body ≡ Certificate c → c.member ≡ me → c.key ≡ own
 
 -- The numbers of a group of which a node may be a member.
@@ -153,7 +155,7 @@ pub record IsGroup (group : Group) : Type 0 where
 
 -- All are certificates, no two of one number; the member's own is among them, and has this key. That their signatures
 -- verify is what their type says.
-pub record AreCertificatesOf (me : ℕ) (own : PublicKey) (certificates : List CheckedRecord) : Type 0 where
+pub record AreCertificatesOf (me : ℕ) (own : Key) (certificates : List CheckedRecord) : Type 0 where
   pub apart : AreApart (recs_of certificates)
   pub among : list_any (λ r. is_certificate_for me r.body) (recs_of certificates) ≡ true
   pub keys : AllByRecursion (HasKey me own) (recs_of certificates)
@@ -161,14 +163,14 @@ pub record AreCertificatesOf (me : ℕ) (own : PublicKey) (certificates : List C
 
 -- The group's numbers are in their ranges, and the certificates were checked in it under the authority's key. No two are
 -- of one number, and the node's own is among them, with this key.
-pub record IsKit (kit : Kit) (own : PublicKey) : Type 0 where
+pub record IsKit (kit : Kit) (own : Key) : Type 0 where
   pub group : IsGroup kit.group
-  pub checked : All (IsCheckedIn kit.group kit.authority) kit.certificates.items
+  pub checked : All (IsCheckedIn kit.group (key_kinds.Lms kit.authority)) kit.certificates.items
   pub certificates : AreCertificatesOf kit.me own kit.certificates.items
 
 -- The node's life rests on nothing but certificates that verify under the authority's key, its own with this key, and on
 -- signatures that verify under this key. It begins with an index left.
-pub record IsVouchable (s : Setting) (own : PublicKey) (certificates : List Record) (stored : Stored) : Type 0 where
+pub record IsVouchable (s : Setting) (own : Key) (certificates : List Record) (stored : Stored) : Type 0 where
   pub rings : HasRings s
   pub kit : lives.IsKit s certificates
   pub certified : AllByRecursion (IsCertifiedBy s own) certificates

@@ -12,7 +12,9 @@ use Rattle.lms_tree.specs.declared.key.PublicKey.{PublicKey}
 use Rattle.records.specs.declared.CertBody.{CertBody}
 use Rattle.lms_tree.specs.declared.secret.Secret.{Secret}
 use Rattle.lms_tree.specs.Leaves.{index_count}
-use Rattle.lms_tree.specs.Lms.{signature_of, verdict_of}
+use Rattle.lms_tree.specs.Lms.{signature_of}
+use Rattle.records.specs.declared.keys.Key.TheVariants as keys
+use Rattle.records.specs.Keys.{verdict_of}
 use Rattle.records.specs.Signing.{signed_bytes}
 use Rattle.ring_order.specs.Hashed.{hashed_places}
 use Rattle.membership.specs.Life.{Life, has_joined}
@@ -46,7 +48,7 @@ setting_of group me authority key =
     record {
       group = group;
       me = me;
-      authority = authority;
+      authority = keys.Lms authority;
       indexes = index_count key;
       places = hashed_places group.tag group.t;
       verifies = λ public r. is_ok (verdict_of public (signed_bytes group.tag group.t r.body) r.signature);

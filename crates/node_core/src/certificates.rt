@@ -8,8 +8,7 @@ ghost use Rattle.node_core.specs.Rolls.{AreApart, IsApart, recs_of};
 ghost use Rattle.node_core.specs.Begins.{AreCertificatesOf, HasKey, is_of_other as is_of_another};
 
 use ff_ids::MemberId;
-use lms_tree::PublicKey;
-use records::{Body, Checked};
+use records::{Body, Checked, Key};
 
 /// Whether it is the member's certificate.
 fn is_certificate_for(member: MemberId, rec: &Checked) -> bool
@@ -32,7 +31,7 @@ fn is_of_other(member: MemberId, rec: &Checked) -> bool
 }
 
 /// Whether it has this key, if it is the member's certificate.
-fn has_key(member: MemberId, key: &PublicKey, rec: &Checked) -> bool
+fn has_key(member: MemberId, key: &Key, rec: &Checked) -> bool
     ensures { (result ≡ true) ↔ HasKey member key.now rec.now.rec }
 {
     match rec.rec().body {
@@ -75,7 +74,7 @@ fn are_apart(certificates: &[Checked]) -> bool
 }
 
 /// Whether each that is the member's has this key.
-fn have_key(member: MemberId, key: &PublicKey, certificates: &[Checked]) -> bool
+fn have_key(member: MemberId, key: &Key, certificates: &[Checked]) -> bool
     ensures { (result ≡ true) ↔ AllByRecursion (HasKey member key.now) (recs_of certificates.now) }
 {
     let mut rest = certificates;
@@ -98,7 +97,7 @@ fn have_member(member: MemberId, certificates: &[Checked]) -> bool
 }
 
 /// Whether all are certificates, no two of one member, and the member's own is among them, with this key.
-pub fn are_certificates_of(member: MemberId, key: &PublicKey, certificates: &[Checked]) -> bool
+pub fn are_certificates_of(member: MemberId, key: &Key, certificates: &[Checked]) -> bool
     ensures { (result ≡ true) ↔ AreCertificatesOf member key.now certificates.now }
 {
     are_apart(certificates)

@@ -1,6 +1,7 @@
 //! What a life of a node begins with, and what its calls add to.
 
 ghost use Rattle.std.specs.Prelude.{◌≡◌, ◌↔◌, [], All, true};
+ghost use Rattle.records.specs.declared.keys.Key.TheVariants as keys;
 ghost use Rattle.node_core.specs.Begins.{IsCheckedIn, IsGroup, IsKit};
 ghost use Rattle.node_core.specs.Told.{IsNoLoss};
 
@@ -9,7 +10,7 @@ use ff_ids::{Group, MAX_TOLERANCE, MemberId};
 use fields::Bytes;
 use journal::Event;
 use lms_tree::PublicKey;
-use records::Checked;
+use records::{Checked, Key};
 use std::alloc::Global;
 use std::marker::Model;
 
@@ -39,8 +40,8 @@ impl Kit {
     /// Whether a life of the key `own` may begin with the kit, whose certificates were each checked in its group under
     /// the authority's key: the group's numbers are in their ranges, no two certificates are of one member, and the
     /// member's own is among them, with that key.
-    pub fn is_sound(&self, own: &PublicKey) -> bool
-        requires { All (IsCheckedIn self.now.group self.now.authority) self.now.certificates.items }
+    pub fn is_sound(&self, own: &Key) -> bool
+        requires { All (IsCheckedIn self.now.group (keys.Lms self.now.authority)) self.now.certificates.items }
         ensures { (result ≡ true) ↔ IsKit self.now own.now }
     {
         is_group(&self.group) && are_certificates_of(self.me, own, &self.certificates)

@@ -6,7 +6,7 @@ ghost use Rattle.ff_ids.specs.declared.TheConstants.{MAX_TOLERANCE};
 ghost use Rattle.ff_ids.specs.Masks.{good_mask};
 ghost use Rattle.ports.specs.Count.{counted};
 ghost use Rattle.lms_tree.specs.Leaves.{index_count};
-ghost use Rattle.lms_tree.specs.Lms.{public_of};
+ghost use Rattle.signer.specs.Signing.{public_key};
 ghost use Rattle.records.specs.declared.Record.{Record as Recorded};
 ghost use Rattle.records.specs.declared.Body.TheVariants as bodies;
 ghost use Rattle.epoch_store.specs.declared.Stored.{Stored};
@@ -161,7 +161,7 @@ fn make_ready<D: Disk>(
     signer: Signer,
     disk: &mut D,
 ) -> Result<Ready, NodeFault>
-    requires kit { IsKit kit (public_of signer.key) }
+    requires kit { IsKit kit (public_key signer.key) }
     requires signer { signer.group ≡ kit.group }
     requires open { signer.closed ≡ false }
     ensures faults { (D.state disk.new).faults
@@ -294,7 +294,7 @@ impl Node {
         disk: &mut D,
         events: &mut Events,
     ) -> Result<Node, NodeFault>
-        requires kit { IsKit kit (public_of signer.key) }
+        requires kit { IsKit kit (public_key signer.key) }
         requires signer { signer.group ≡ kit.group }
         requires open { signer.closed ≡ false }
         ensures starts { IfOk result
@@ -303,7 +303,7 @@ impl Node {
             events.new) }
         ensures vouchable { IfOk result
             (λ node. (s : Setting) → s ≡ setting_of kit.group kit.me kit.authority signer.key
-            → IsVouchable s (public_of signer.key) (recs_of kit.certificates.items) signer.state) }
+            → IsVouchable s (public_key signer.key) (recs_of kit.certificates.items) signer.state) }
         ensures going { IfOk result (λ node. node.ended ≡ false) }
         ensures closed { IfOk result (λ node. node.signer.closed ≡ false) }
         ensures silent { OnErr result (events.new ≡ events.old) }

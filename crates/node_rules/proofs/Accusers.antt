@@ -6,7 +6,7 @@ use Rattle.ff_ids.specs.declared.NoteBody.{NoteBody}
 use Rattle.ff_ids.specs.declared.summary.RecordKey.{RecordKey}
 use Rattle.ff_ids.specs.Faults.{accusation_fault}
 use Rattle.ff_ids.specs.Steps.{Ticks}
-use Rattle.lms_tree.specs.declared.key.PublicKey.{PublicKey}
+use Rattle.records.specs.declared.keys.Key.{Key}
 use Rattle.records.specs.declared.Body.{Body}
 use Rattle.records.specs.declared.Body.TheVariants.{Certificate, Note, Accusation}
 use Rattle.records.specs.declared.CertBody.{CertBody}
@@ -35,7 +35,7 @@ abbrev Accused : Setting → Node → Type 0
 Accused s n = (k : RecordKey) (r : Record) (a : AccBody) → n.held k ≡ Some r → r.body ≡ Accusation a → IsSignedBy s n a.accuser r
 
 -- A correct node's, of which each held accusation is signed by its accuser.
-record Accuses (s : Setting) (own : PublicKey) (n : Node) : Type 0 where
+record Accuses (s : Setting) (own : Key) (n : Node) : Type 0 where
   all : KeepsAll s own n
   accused : Accused s n
 
@@ -59,7 +59,7 @@ accepted-signed s n r a fine is =
     let v : Verifies s (public_key_of n a.accuser) r = verified s (public_key_of n a.accuser) r (option_or-none (accusation_fault s.group.t (state_of s n) a) (signature_fault s.verifies (public_key_of n a.accuser) r) fine2).1 in
     record { key = v.key; author_is = v.author_is; verifies = v.verifies }
 
-accuses-takes : (s : Setting) (own : PublicKey) (r : Record) (c : Call) → 1 ≤ s.group.t → OwnSignaturesVerify s own → refusal s c.node r ≡ None → Accuses s own c.node → Accuses s own (takes s r c).node
+accuses-takes : (s : Setting) (own : Key) (r : Record) (c : Call) → 1 ≤ s.group.t → OwnSignaturesVerify s own → refusal s c.node r ≡ None → Accuses s own c.node → Accuses s own (takes s r c).node
 accuses-takes s own r c some sign fine h =
     record {
       all = (keeping-all s own some sign).taken r c fine h.all;
@@ -84,7 +84,7 @@ not_an_accusation x a e = cc
 same_accusation : (x a : AccBody) → Accusation x ≡ Accusation a → x ≡ a
 same_accusation x a e = cc
 
-accuses-answers : (s : Setting) (own : PublicKey) (r : Record) (a : AccBody) (c : Call) → 1 ≤ s.group.t → OwnSignaturesVerify s own → refusal s c.node r ≡ None → r.body ≡ Accusation a → eqb a.accused s.me ≡ true
+accuses-answers : (s : Setting) (own : Key) (r : Record) (a : AccBody) (c : Call) → 1 ≤ s.group.t → OwnSignaturesVerify s own → refusal s c.node r ≡ None → r.body ≡ Accusation a → eqb a.accused s.me ≡ true
     → is_used_up s (takes s r c).node ≡ false → Accuses s own c.node → Accuses s own (signs s (answer_to s (takes s r c).node.stored a) (takes s r c)).node
 accuses-answers s own r a c some sign fine is me left h =
     let c1 : Call = takes s r c in
@@ -95,7 +95,7 @@ accuses-answers s own r a c some sign fine is me left h =
       accused = accused-signs s b c1 (follows-signs s c1.node b c1 (note-is_none (answering_note s c1.node.stored a)) (follows-itself s c1.node)) (λ x e. absurd (not_an_accusation (answering_note s c1.node.stored a) x e)) h1.accused;
     }
 
-accuses-accuses : (s : Setting) (own : PublicKey) (a : AccBody) (c : Call) → 1 ≤ s.group.t → OwnSignaturesVerify s own → a.accuser ≡ s.me → is_used_up s c.node ≡ false → Accuses s own c.node → Accuses s own (signs s (Accusation a) c).node
+accuses-accuses : (s : Setting) (own : Key) (a : AccBody) (c : Call) → 1 ≤ s.group.t → OwnSignaturesVerify s own → a.accuser ≡ s.me → is_used_up s c.node ≡ false → Accuses s own c.node → Accuses s own (signs s (Accusation a) c).node
 accuses-accuses s own a c some sign by left h =
     record {
       all = (keeping-all s own some sign).accused a c by left h.all;
@@ -108,7 +108,7 @@ accuses-accuses s own a c some sign by left h =
           h.accused;
     }
 
-accuses-leaves : (s : Setting) (own : PublicKey) (c : Call) → 1 ≤ s.group.t → OwnSignaturesVerify s own → is_used_up s c.node ≡ false → Accuses s own c.node → Accuses s own (signs s (leaving s c.node.stored) c).node
+accuses-leaves : (s : Setting) (own : Key) (c : Call) → 1 ≤ s.group.t → OwnSignaturesVerify s own → is_used_up s c.node ≡ false → Accuses s own c.node → Accuses s own (signs s (leaving s c.node.stored) c).node
 accuses-leaves s own c some sign left h =
     let x : NoteBody = leaving_note s c.node.stored in
     record {
@@ -116,7 +116,7 @@ accuses-leaves s own c some sign left h =
       accused = accused-signs s (Note x) c (follows-signs s c.node (Note x) c (note-is_none x) (follows-itself s c.node)) (λ a e. absurd (not_an_accusation x a e)) h.accused;
     }
 
-accuses-passes : (s : Setting) (own : PublicKey) (c : Call) → 1 ≤ s.group.t → OwnSignaturesVerify s own → Accuses s own c.node → Accuses s own (lives s Ticks c).node
+accuses-passes : (s : Setting) (own : Key) (c : Call) → 1 ≤ s.group.t → OwnSignaturesVerify s own → Accuses s own c.node → Accuses s own (lives s Ticks c).node
 accuses-passes s own c some sign h =
     let later : Node = (lives s Ticks c).node in
     let f : Follows s c.node later = (following s c.node).passed c (follows-itself s c.node) in
@@ -125,7 +125,7 @@ accuses-passes s own c some sign h =
       accused = λ k x a is says. signed-later s c.node later a.accuser x f (h.accused k x a (held-lives s Ticks c k x is) says);
     }
 
-accuses-probed : (s : Setting) (own : PublicKey) (c : Call) (p : History) → 1 ≤ s.group.t → OwnSignaturesVerify s own → Accuses s own c.node → Accuses s own (record c.node { probes = p })
+accuses-probed : (s : Setting) (own : Key) (c : Call) (p : History) → 1 ≤ s.group.t → OwnSignaturesVerify s own → Accuses s own c.node → Accuses s own (record c.node { probes = p })
 accuses-probed s own c p some sign h =
     let later : Node = record c.node { probes = p } in
     let f : Follows s c.node later = (following s c.node).probed p c (follows-itself s c.node) in
@@ -134,11 +134,11 @@ accuses-probed s own c p some sign h =
       accused = λ k x a is says. signed-later s c.node later a.accuser x f (h.accused k x a is says);
     }
 
-accuses-sends : (s : Setting) (own : PublicKey) (d : Datagram) (c : Call) (to : ℕ) → Accuses s own c.node → Accuses s own (sends s d c to).node
+accuses-sends : (s : Setting) (own : Key) (d : Datagram) (c : Call) (to : ℕ) → Accuses s own c.node → Accuses s own (sends s d c to).node
 unfolding sends
 accuses-sends s own d c to h = h
 
-accusing : (s : Setting) (own : PublicKey) → 1 ≤ s.group.t → OwnSignaturesVerify s own → Keeps s (λ c. Accuses s own c.node)
+accusing : (s : Setting) (own : Key) → 1 ≤ s.group.t → OwnSignaturesVerify s own → Keeps s (λ c. Accuses s own c.node)
 accusing s own some sign =
     record {
       told = λ what c other h. h;
@@ -152,7 +152,7 @@ accusing s own some sign =
       probed = λ p c h. accuses-probed s own c p some sign h;
     }
 
-accuses-calls : (s : Setting) (own : PublicKey) (n : Node) (inputs : List Input) → 1 ≤ s.group.t → OwnSignaturesVerify s own → Accuses s own n → Accuses s own (after_calls s n inputs)
+accuses-calls : (s : Setting) (own : Key) (n : Node) (inputs : List Input) → 1 ≤ s.group.t → OwnSignaturesVerify s own → Accuses s own n → Accuses s own (after_calls s n inputs)
 accuses-calls s own n [] some sign h = h
 accuses-calls s own n (i ∷ inputs) some sign h =
     accuses-calls s own (call_of s n i).node inputs some sign (keeps-call s (λ c. Accuses s own c.node) (accusing s own some sign) n i h)

@@ -14,7 +14,7 @@ use Rattle.ff_ids.specs.Notes.{newest}
 use Rattle.ff_ids.specs.Views.{is_member}
 use Rattle.ff_ids.specs.Faults.{note_fault, note_fault_by}
 use Rattle.ff_ids.specs.Steps.{Ticks}
-use Rattle.lms_tree.specs.declared.key.PublicKey.{PublicKey}
+use Rattle.records.specs.declared.keys.Key.{Key}
 use Rattle.records.specs.declared.CertBody.{CertBody}
 use Rattle.records.specs.declared.Body.{Body}
 use Rattle.records.specs.declared.Body.TheVariants.{Certificate, Note, Accusation}
@@ -44,7 +44,7 @@ use Rattle.node_rules.proofs.OwnKey.{key-started}
 use Rattle.node_rules.proofs.Growth.{certificate-signs, none-kept, held-takes, Follows, follows-itself, following, note-is_none, accusation-is_none}
 use Rattle.node_rules.proofs.Upholding.{some_is, none_some, certificate-note, Upholds, MayTake, upholds-takes, upholds-ticks}
 
-pub record KeepsAll (s : Setting) (own : PublicKey) (n : Node) : Type 0 where
+pub record KeepsAll (s : Setting) (own : Key) (n : Node) : Type 0 where
   pub own_note : KeepsOwnNote s n
   pub own_key : public_key_of n s.me ≡ Some own
   pub within : n.stored.next ≤ s.indexes
@@ -52,12 +52,12 @@ pub record KeepsAll (s : Setting) (own : PublicKey) (n : Node) : Type 0 where
 
 -- ---- an accepted record
 
-pub record Verifies (s : Setting) (author : Option PublicKey) (r : Record) : Type 0 where
-  pub key : PublicKey
+pub record Verifies (s : Setting) (author : Option Key) (r : Record) : Type 0 where
+  pub key : Key
   pub author_is : author ≡ Some key
   pub verifies : s.verifies key r ≡ true
 
-pub verified : (s : Setting) (author : Option PublicKey) (r : Record) → signature_fault s.verifies author r ≡ None → Verifies s author r
+pub verified : (s : Setting) (author : Option Key) (r : Record) → signature_fault s.verifies author r ≡ None → Verifies s author r
 verified s None r fine = cc
 verified s (Some key) r fine =
     elim (cases_Bool (s.verifies key r)) [
@@ -65,7 +65,7 @@ verified s (Some key) r fine =
       | inr bad ↦ absurd (none_some faults.BadSignature (sym (sym (ap (λ b. cond b None (Some faults.BadSignature)) bad) ∙ fine)))
     ]
 
-no_key : (o : Option CertBody) (key : PublicKey) → o ≡ None → option_map (λ c. c.key) o ≡ Some key → ⊥
+no_key : (o : Option CertBody) (key : Key) → o ≡ None → option_map (λ c. c.key) o ≡ Some key → ⊥
 no_key o key none some = cc
 
 may-take : (s : Setting) (n : Node) (r : Record) (b : Body) → r.body ≡ b → refusal s n r ≡ None → Upholds s n → MayTake s n r b
@@ -112,7 +112,7 @@ unfolding signs
 upholds-signs_accusation s a c h = upholds-takes s (own_record s c.node (Accusation a)) (Accusation a) (spends s (Accusation a) c) refl tt (upholds-spends s (Accusation a) c h)
 
 -- the own note, which verifies under the own key
-upholds-signs_note : (s : Setting) (own : PublicKey) (x : NoteBody) (c : Call) → x.member ≡ s.me → OwnSignaturesVerify s own → c.node.stored.next < s.indexes → public_key_of c.node s.me ≡ Some own
+upholds-signs_note : (s : Setting) (own : Key) (x : NoteBody) (c : Call) → x.member ≡ s.me → OwnSignaturesVerify s own → c.node.stored.next < s.indexes → public_key_of c.node s.me ≡ Some own
     → note_fault s.group.t (state_of s c.node) x ≡ None → Upholds s c.node → Upholds s (signs s (Note x) c).node
 unfolding signs
 upholds-signs_note s own x c mine signs left own_key fine h =
@@ -136,21 +136,21 @@ next-signs s b c = ap (λ k. k.next) (stored-signs s b c) ∙ stored_after-next 
 within-signs : (s : Setting) (b : Body) (c : Call) → c.node.stored.next < s.indexes → (signs s b c).node.stored.next ≤ s.indexes
 within-signs s b c left = omega (arith, next-signs s b c)
 
-has_key : (o : Option CertBody) (key : PublicKey) → option_map (λ c. c.key) o ≡ Some key → (x : CertBody) × ((o ≡ Some x) × (x.key ≡ key))
+has_key : (o : Option CertBody) (key : Key) → option_map (λ c. c.key) o ≡ Some key → (x : CertBody) × ((o ≡ Some x) × (x.key ≡ key))
 has_key None key e = cc
 has_key (Some x) key e = (x, (refl, some_is x.key key e))
 
-pub certificate-of_key : (n : Node) (m : ℕ) (key : PublicKey) → public_key_of n m ≡ Some key → (x : CertBody) × ((certificate_of n m ≡ Some x) × (x.key ≡ key))
+pub certificate-of_key : (n : Node) (m : ℕ) (key : Key) → public_key_of n m ≡ Some key → (x : CertBody) × ((certificate_of n m ≡ Some x) × (x.key ≡ key))
 certificate-of_key n m key e = has_key (certificate_of n m) key e
 
-pub key-follows : (s : Setting) (n later : Node) (m : ℕ) (key : PublicKey) → Follows s n later → public_key_of n m ≡ Some key → public_key_of later m ≡ Some key
+pub key-follows : (s : Setting) (n later : Node) (m : ℕ) (key : Key) → Follows s n later → public_key_of n m ≡ Some key → public_key_of later m ≡ Some key
 key-follows s n later m key f e =
     let x = certificate-of_key n m key e in
     ap (option_map (λ c. c.key)) (f.certificates m x.0 x.1.0) ∙ ap (λ k. Some k) x.1.1
 
 -- ---- each step
 
-all-takes : (s : Setting) (own : PublicKey) (r : Record) (c : Call) → 1 ≤ s.group.t → refusal s c.node r ≡ None → KeepsAll s own c.node → KeepsAll s own (takes s r c).node
+all-takes : (s : Setting) (own : Key) (r : Record) (c : Call) → 1 ≤ s.group.t → refusal s c.node r ≡ None → KeepsAll s own c.node → KeepsAll s own (takes s r c).node
 all-takes s own r c some fine h =
     record {
       own_note = (keeping s some).taken r c fine h.own_note;
@@ -159,7 +159,7 @@ all-takes s own r c some fine h =
       upholds = upholds-takes s r r.body c refl (may-take s c.node r r.body refl fine h.upholds) h.upholds;
     }
 
-all-answers : (s : Setting) (own : PublicKey) (r : Record) (a : AccBody) (c : Call) → 1 ≤ s.group.t → OwnSignaturesVerify s own → refusal s c.node r ≡ None → r.body ≡ Accusation a → eqb a.accused s.me ≡ true
+all-answers : (s : Setting) (own : Key) (r : Record) (a : AccBody) (c : Call) → 1 ≤ s.group.t → OwnSignaturesVerify s own → refusal s c.node r ≡ None → r.body ≡ Accusation a → eqb a.accused s.me ≡ true
     → is_used_up s (takes s r c).node ≡ false → KeepsAll s own c.node → KeepsAll s own (signs s (answer_to s (takes s r c).node.stored a) (takes s r c)).node
 all-answers s own r a c some sign fine is me left h =
     let c1 : Call = takes s r c in
@@ -173,7 +173,7 @@ all-answers s own r a c some sign fine is me left h =
       upholds = upholds-signs_note s own x c1 refl sign index h1.own_key (answer-fine s r a c some fine is me h.own_note) h1.upholds;
     }
 
-all-accuses : (s : Setting) (own : PublicKey) (a : AccBody) (c : Call) → 1 ≤ s.group.t → a.accuser ≡ s.me → is_used_up s c.node ≡ false → KeepsAll s own c.node → KeepsAll s own (signs s (Accusation a) c).node
+all-accuses : (s : Setting) (own : Key) (a : AccBody) (c : Call) → 1 ≤ s.group.t → a.accuser ≡ s.me → is_used_up s c.node ≡ false → KeepsAll s own c.node → KeepsAll s own (signs s (Accusation a) c).node
 all-accuses s own a c some by left h =
     record {
       own_note = (keeping s some).accused a c by left h.own_note;
@@ -182,7 +182,7 @@ all-accuses s own a c some by left h =
       upholds = upholds-signs_accusation s a c h.upholds;
     }
 
-all-leaves : (s : Setting) (own : PublicKey) (c : Call) → 1 ≤ s.group.t → OwnSignaturesVerify s own → is_used_up s c.node ≡ false → KeepsAll s own c.node → KeepsAll s own (signs s (leaving s c.node.stored) c).node
+all-leaves : (s : Setting) (own : Key) (c : Call) → 1 ≤ s.group.t → OwnSignaturesVerify s own → is_used_up s c.node ≡ false → KeepsAll s own c.node → KeepsAll s own (signs s (leaving s c.node.stored) c).node
 all-leaves s own c some sign left h =
     let x : NoteBody = leaving_note s c.node.stored in
     let index : c.node.stored.next < s.indexes = index-left s c.node left h.within in
@@ -193,7 +193,7 @@ all-leaves s own c some sign left h =
       upholds = upholds-signs_note s own x c refl sign index h.own_key (next_own-fine s c.node 0 h.own_note refl) h.upholds;
     }
 
-all-ticks : (s : Setting) (own : PublicKey) (c : Call) → 1 ≤ s.group.t → KeepsAll s own c.node → KeepsAll s own (lives s Ticks c).node
+all-ticks : (s : Setting) (own : Key) (c : Call) → 1 ≤ s.group.t → KeepsAll s own c.node → KeepsAll s own (lives s Ticks c).node
 all-ticks s own c some h =
     record {
       own_note = (keeping s some).passed c h.own_note;
@@ -202,11 +202,11 @@ all-ticks s own c some h =
       upholds = upholds-ticks s c h.upholds;
     }
 
-all-sends : (s : Setting) (own : PublicKey) (d : Datagram) (c : Call) (to : ℕ) → KeepsAll s own c.node → KeepsAll s own (sends s d c to).node
+all-sends : (s : Setting) (own : Key) (d : Datagram) (c : Call) (to : ℕ) → KeepsAll s own c.node → KeepsAll s own (sends s d c to).node
 unfolding sends
 all-sends s own d c to h = h
 
-all-probed : (s : Setting) (own : PublicKey) (c : Call) (p : History) → 1 ≤ s.group.t → KeepsAll s own c.node → KeepsAll s own (record c.node { probes = p })
+all-probed : (s : Setting) (own : Key) (c : Call) (p : History) → 1 ≤ s.group.t → KeepsAll s own c.node → KeepsAll s own (record c.node { probes = p })
 unfolding state_of certificate_of
 all-probed s own c p some h =
     let u = h.upholds in
@@ -225,7 +225,7 @@ all-probed s own c p some h =
           };
     }
 
-pub keeping-all : (s : Setting) (own : PublicKey) → 1 ≤ s.group.t → OwnSignaturesVerify s own → Keeps s (λ c. KeepsAll s own c.node)
+pub keeping-all : (s : Setting) (own : Key) → 1 ≤ s.group.t → OwnSignaturesVerify s own → Keeps s (λ c. KeepsAll s own c.node)
 keeping-all s own some sign =
     record {
       told = λ what c other h. h;
@@ -239,7 +239,7 @@ keeping-all s own some sign =
       probed = λ p c h. all-probed s own c p some h;
     }
 
-all-calls : (s : Setting) (own : PublicKey) (n : Node) (inputs : List Input) → 1 ≤ s.group.t → OwnSignaturesVerify s own → KeepsAll s own n → KeepsAll s own (after_calls s n inputs)
+all-calls : (s : Setting) (own : Key) (n : Node) (inputs : List Input) → 1 ≤ s.group.t → OwnSignaturesVerify s own → KeepsAll s own n → KeepsAll s own (after_calls s n inputs)
 all-calls s own n [] some sign h = h
 all-calls s own n (i ∷ inputs) some sign h =
     all-calls s own (call_of s n i).node inputs some sign (keeps-call s (λ c. KeepsAll s own c.node) (keeping-all s own some sign) n i h)
@@ -273,7 +273,7 @@ takes_all s records c = fold (λ c r. takes s r c) c records
 abbrev pub Certifies : Record → Type 0
 Certifies r = (x : CertBody) × (r.body ≡ Certificate x)
 
-kit-opened : (s : Setting) (own : PublicKey) (records : List Record) (c : Call) → AllByRecursion Certifies records → AllByRecursion (IsCertifiedBy s own) records → HasOpened s c.node → HasOpened s (takes_all s records c).node
+kit-opened : (s : Setting) (own : Key) (records : List Record) (c : Call) → AllByRecursion Certifies records → AllByRecursion (IsCertifiedBy s own) records → HasOpened s c.node → HasOpened s (takes_all s records c).node
 kit-opened s own [] c all good h = h
 kit-opened s own (r ∷ records) c all good h =
     let x : CertBody = all.0.0 in
@@ -289,7 +289,7 @@ first-good t stored = cond_both (good_mask t stored) stored (all_rings t) (λ m.
 first-fine : (t : ℕ) (joined : Bool) (newest_note : Option NoteBody) (n : NoteBody) → joined ≡ true → note_mask t n.mask.0 ≡ true → newest_note ≡ None → note_fault_by t joined newest_note n ≡ None
 first-fine t joined newest_note n j g h = rw (j, g, h) refl
 
-pub all-started : (s : Setting) (own : PublicKey) (seed : List ℕ) (certificates : List Record) (stored : Stored) → AllByRecursion Certifies certificates → list_any (λ r. is_certificate_for s.me r.body) certificates ≡ true
+pub all-started : (s : Setting) (own : Key) (seed : List ℕ) (certificates : List Record) (stored : Stored) → AllByRecursion Certifies certificates → list_any (λ r. is_certificate_for s.me r.body) certificates ≡ true
     → AllByRecursion (IsCertifiedBy s own) certificates → OwnSignaturesVerify s own → stored.next < s.indexes → KeepsAll s own (started s seed certificates stored).node
 unfolding started
 all-started s own seed certificates stored all mine good sign left =

@@ -11,6 +11,8 @@ use Rattle.ff_ids.specs.Views.{all_numbers, in_view_by}
 use Rattle.records.specs.declared.CertBody.{CertBody}
 use Rattle.records.specs.declared.Body.TheVariants.{Certificate}
 use Rattle.records.specs.declared.Record.{Record}
+use Rattle.records.specs.declared.keys.Key.{Key}
+use Rattle.records.specs.declared.keys.Key.TheVariants as key_kinds
 use Rattle.records.specs.Spelling.{note_bytes, accusation_bytes, certificate_bytes}
 use Rattle.records.specs.Grammar.{key_at, certificate_at, note_at, accusation_at, body_at, signature_at, record_at}
 use Rattle.lms_tree.specs.Lms.{key_bytes}
@@ -29,7 +31,7 @@ use Rattle.node_rules.specs.OneExchange.{Life, node_after, notes_after, IsCorrec
 use Rattle.node_rules.proofs.Growth.{held-takes, certificate-signs, note-is_none}
 use Rattle.node_rules.proofs.Upholding.{none_some, certificate-certificate}
 use Rattle.node_rules.proofs.OneExchange.{one-exchange}
-use Rattle.node_rules.proofs.Rows.{setting, seed, certificate, new_store, note}
+use Rattle.node_rules.proofs.Rows.{key_with, setting, seed, certificate, new_store, note}
 
 abbrev life : Setting → List Record → Life
 life s certificates = record { setting = s; own = s.authority; seed = seed; certificates = certificates; stored = new_store }
@@ -79,11 +81,14 @@ own_note_counts = refl
 
 -- Where a signature verifies under the key whose id begins with the same byte, and the two keep different certificates
 -- of member 2, its note is refused.
+abbrev byte_of : Key → ℕ
+byte_of (key_kinds.Lms k) = slice_index k.id 0
+
 abbrev strict : ℕ → Setting
-strict me = record (setting me) { verifies = λ k r. slice_index k.id 0 == slice_index r.signature 0 }
+strict me = record (setting me) { verifies = λ k r. byte_of k == slice_index r.signature 0 }
 
 abbrev certified : ℕ → ℕ → Record
-certified m id = record { body = Certificate (record { member = m; port = 20000; key = record (setting 1).authority { id = replicate 16 id } }); signature = 0 ∷ [] }
+certified m id = record { body = Certificate (record { member = m; port = 20000; key = key_with id }); signature = 0 ∷ [] }
 
 abbrev strict_one : Life
 strict_one = life (strict 1) (certified 1 0 ∷ certified 2 5 ∷ [])
@@ -126,7 +131,7 @@ within me small =
       lengths = λ key r good.
           let parts = and_parts (ltb 0 (length r.signature)) (leb (length r.signature) 9004) good in
           record { some = ltb-true _ _ parts.0; few = leb-true _ _ parts.1 };
-      certificates = (record { body = record { member_number = small; has_port = omega arith; port_fits = lit< tt; id_long = refl; root_long = refl }; signature = record { some = omega arith; few = omega arith } }, tt);
+      certificates = (record { body = record { member_number = small; has_port = omega arith; port_fits = lit< tt; key = record { id_long = refl; root_long = refl } }; signature = record { some = omega arith; few = omega arith } }, tt);
       epoch = omega arith;
     }
 

@@ -20,7 +20,7 @@ use Rattle.ff_ids.specs.Faults.{note_fault, note_fault_by, fault_after, fault_be
 use Rattle.ff_ids.specs.Steps.{after_note, step, Stepped}
 use Rattle.life_laws.proofs.Lists.{In}
 use Rattle.life_laws.proofs.NoteLemmas.{below, below-itself, below-back, not_below-trans}
-use Rattle.lms_tree.specs.declared.key.PublicKey.{PublicKey}
+use Rattle.records.specs.declared.keys.Key.{Key}
 use Rattle.records.specs.declared.CertBody.{CertBody}
 use Rattle.records.specs.declared.Body.{Body}
 use Rattle.records.specs.declared.Body.TheVariants.{Certificate, Note, Accusation}
@@ -140,7 +140,7 @@ certificate-held n r d m filed held is who =
 
 -- Where a call stands that is handed the records of the other: what it upholds, that it goes on from where it was,
 -- and that the two agree.
-pub record Stands (s : Setting) (own : PublicKey) (other earlier : Node) (c : Call) : Type 0 where
+pub record Stands (s : Setting) (own : Key) (other earlier : Node) (c : Call) : Type 0 where
   pub all : KeepsAll s own c.node
   pub follows : Follows s earlier c.node
   pub agrees : AgreeOnCertificates other c.node
@@ -153,12 +153,12 @@ agree-handles s other c r filed held agrees =
       | now is who ↦ some_is x d (sym theirs ∙ certificate-held other r d m filed held is who)
     ]
 
-pub record Handing (s : Setting) (own : PublicKey) (other : Node) : Type 0 where
+pub record Handing (s : Setting) (own : Key) (other : Node) : Type 0 where
   pub some : 1 ≤ s.group.t
   pub signs : OwnSignaturesVerify s own
   pub filed : IsFiled other.held
 
-pub stands-handles : (s : Setting) (own : PublicKey) (other earlier : Node) (c : Call) (r : Record) → Handing s own other → IsHeld other r → Stands s own other earlier c → Stands s own other earlier (handles true s c r)
+pub stands-handles : (s : Setting) (own : Key) (other earlier : Node) (c : Call) (r : Record) → Handing s own other → IsHeld other r → Stands s own other earlier c → Stands s own other earlier (handles true s c r)
 stands-handles s own other earlier c r handing held h =
     record {
       all = keeps-handles s (λ x. KeepsAll s own x.node) (keeping-all s own handing.some handing.signs) true c r h.all;
@@ -275,7 +275,7 @@ own_ahead-fine : (me : ℕ) (o : Option NoteBody) (n : NoteBody) → (eqb n.memb
 own_ahead-fine me o n other =
     cond_both (eqb n.member me) (option_map (λ kept. faults.OwnAhead kept n) o) None (λ f. f ≡ None) (λ yes. absurd (other yes)) (λ no. refl)
 
-note-fine : (s : Setting) (n : Node) (r : Record) (x : NoteBody) (key : PublicKey) → r.body ≡ Note x → note_fault s.group.t (state_of s n) x ≡ None → public_key_of n x.member ≡ Some key → s.verifies key r ≡ true
+note-fine : (s : Setting) (n : Node) (r : Record) (x : NoteBody) (key : Key) → r.body ≡ Note x → note_fault s.group.t (state_of s n) x ≡ None → public_key_of n x.member ≡ Some key → s.verifies key r ≡ true
     → own_ahead s.me (newest (state_of s n).notes s.me) x ≡ None → refusal s n r ≡ None
 unfolding refusal
 note-fine s n r x key is fine author verifies not_ahead =
@@ -296,7 +296,7 @@ notes-taken s r x c is fine later =
     ∙ ap (λ n. Some n) (greater-accepted x (newest st.notes x.member) later)
 
 -- It is handled where a certificate is known: from then on a note at least as great is known.
-pub notes : (s : Setting) (own : PublicKey) (other earlier : Node) (c : Call) (r : Record) (x : NoteBody) → IsNoteOf s other r x → Stands s own other earlier c → is_certified c.node x.member ≡ true
+pub notes : (s : Setting) (own : Key) (other earlier : Node) (c : Call) (r : Record) (x : NoteBody) → IsNoteOf s other r x → Stands s own other earlier c → is_certified c.node x.member ≡ true
     → (x.member ≡ s.me → HasAtLeast (state_of s c.node).notes s.me x) → HasAtLeast (state_of s (handles true s c r).node).notes x.member x
 notes s own other earlier c r x of h certified own_known =
     let st = state_of s c.node in

@@ -16,7 +16,7 @@ use Rattle.ff_ids.specs.Notes.{newest}
 use Rattle.ff_ids.specs.Views.{State}
 use Rattle.ff_ids.specs.Steps.{Event, Ticks, step}
 use Rattle.life_laws.proofs.NoteLemmas.{newest-fits}
-use Rattle.lms_tree.specs.declared.key.PublicKey.{PublicKey}
+use Rattle.records.specs.declared.keys.Key.{Key}
 use Rattle.records.specs.declared.Body.{Body}
 use Rattle.records.specs.declared.Body.TheVariants.{Note, Accusation}
 use Rattle.records.specs.declared.Record.{Record}
@@ -81,22 +81,22 @@ record IsRanged (s : Setting) : Type 0 where
   me : s.me < MEMBERS
   few : s.group.t ≤ MAX_TOLERANCE
   indexes : s.indexes < 2 ^ 64
-  lengths : (key : PublicKey) (r : Record) → s.verifies key r ≡ true → HasLength r.signature
+  lengths : (key : Key) (r : Record) → s.verifies key r ≡ true → HasLength r.signature
 
-pub record Formed (s : Setting) (own : PublicKey) (n : Node) : Type 0 where
+pub record Formed (s : Setting) (own : Key) (n : Node) : Type 0 where
   pub all : KeepsAll s own n
   pub held : AreFormed n.held
   pub epoch : n.stored.epoch ≤ n.stored.next
 
 -- ---- own records
 
-own-signed : (s : Setting) (own : PublicKey) (b : Body) (n : Node) → IsRanged s → OwnSignaturesVerify s own → n.stored.next < s.indexes → IsBody b → IsSignedRecord (own_record s n b)
+own-signed : (s : Setting) (own : Key) (b : Body) (n : Node) → IsRanged s → OwnSignaturesVerify s own → n.stored.next < s.indexes → IsBody b → IsSignedRecord (own_record s n b)
 own-signed s own b n ranged sign left body = record { body = body; signature = ranged.lengths own (own_record s n b) (sign n.stored.next b left) }
 
 epoch-note : (stored : Stored) (x : NoteBody) → x.epoch ≡ stored.epoch + 1 → stored.epoch ≤ stored.next → (stored_after stored (Note x)).epoch ≤ (stored_after stored (Note x)).next
 epoch-note stored x is le = omega (arith, is, le)
 
-formed-takes_given : (s : Setting) (own : PublicKey) (r : Record) (c : Call) → 1 ≤ s.group.t → OwnSignaturesVerify s own → IsSignedRecord r → refusal s c.node r ≡ None → Formed s own c.node → Formed s own (takes s r c).node
+formed-takes_given : (s : Setting) (own : Key) (r : Record) (c : Call) → 1 ≤ s.group.t → OwnSignaturesVerify s own → IsSignedRecord r → refusal s c.node r ≡ None → Formed s own c.node → Formed s own (takes s r c).node
 formed-takes_given s own r c some sign given fine h =
     record {
       all = (keeping-all s own some sign).taken r c fine h.all;
@@ -114,7 +114,7 @@ next-formed s n mask ranged le left allowed =
       mask_fits = allowed-fits s.group.t mask ranged.few allowed;
     }
 
-formed-answers : (s : Setting) (own : PublicKey) (r : Record) (a : AccBody) (c : Call) → IsRanged s → 1 ≤ s.group.t → OwnSignaturesVerify s own → IsSignedRecord r → refusal s c.node r ≡ None → r.body ≡ Accusation a → eqb a.accused s.me ≡ true
+formed-answers : (s : Setting) (own : Key) (r : Record) (a : AccBody) (c : Call) → IsRanged s → 1 ≤ s.group.t → OwnSignaturesVerify s own → IsSignedRecord r → refusal s c.node r ≡ None → r.body ≡ Accusation a → eqb a.accused s.me ≡ true
     → is_used_up s (takes s r c).node ≡ false → Formed s own c.node → Formed s own (signs s (answer_to s (takes s r c).node.stored a) (takes s r c)).node
 formed-answers s own r a c ranged some sign given fine is me left h =
     let c1 : Call = takes s r c in
@@ -130,7 +130,7 @@ formed-answers s own r a c ranged some sign given fine is me left h =
     }
 
 -- the note by which the node leaves
-formed-leaves : (s : Setting) (own : PublicKey) (c : Call) → IsRanged s → 1 ≤ s.group.t → OwnSignaturesVerify s own → is_used_up s c.node ≡ false → Formed s own c.node → Formed s own (signs s (leaving s c.node.stored) c).node
+formed-leaves : (s : Setting) (own : Key) (c : Call) → IsRanged s → 1 ≤ s.group.t → OwnSignaturesVerify s own → is_used_up s c.node ≡ false → Formed s own c.node → Formed s own (signs s (leaving s c.node.stored) c).node
 formed-leaves s own c ranged some sign left h =
     let x : NoteBody = leaving_note s c.node.stored in
     let index : c.node.stored.next < s.indexes = index-left s c.node left h.all.within in
@@ -147,7 +147,7 @@ some-first None f y e = cc
 some-first (Some x) f y e = (x, refl)
 
 -- who is accused has a note, which is held
-accused-body : (s : Setting) (own : PublicKey) (n : Node) (m ring : ℕ) → IsRanged s → Formed s own n → ring_for s (state_of s n) m ≡ Some ring → IsBody (accusation_on s (state_of s n) m ring)
+accused-body : (s : Setting) (own : Key) (n : Node) (m ring : ℕ) → IsRanged s → Formed s own n → ring_for s (state_of s n) m ≡ Some ring → IsBody (accusation_on s (state_of s n) m ring)
 accused-body s own n m ring ranged h found =
     let st : State = state_of s n in
     let note = some-first (newest st.notes m) (λ x. slice_get (monitored_rings s st m x) 0) ring found in
@@ -166,7 +166,7 @@ accused-body s own n m ring ranged h found =
 epoch-accusation : (stored : Stored) (a : AccBody) → stored.epoch ≤ stored.next → (stored_after stored (Accusation a)).epoch ≤ (stored_after stored (Accusation a)).next
 epoch-accusation stored a le = omega (arith, le)
 
-formed-accuses : (s : Setting) (own : PublicKey) (m ring : ℕ) (c : Call) → IsRanged s → 1 ≤ s.group.t → OwnSignaturesVerify s own → ring_for s (state_of s c.node) m ≡ Some ring → is_used_up s c.node ≡ false → Formed s own c.node
+formed-accuses : (s : Setting) (own : Key) (m ring : ℕ) (c : Call) → IsRanged s → 1 ≤ s.group.t → OwnSignaturesVerify s own → ring_for s (state_of s c.node) m ≡ Some ring → is_used_up s c.node ≡ false → Formed s own c.node
     → Formed s own (signs s (accusation_on s (state_of s c.node) m ring) c).node
 formed-accuses s own m ring c ranged some sign found left h =
     let a : AccBody = record { accuser = s.me; accused = m; epoch = newest_epoch (state_of s c.node) m; ring = record { 0 = ring } } in
@@ -177,7 +177,7 @@ formed-accuses s own m ring c ranged some sign found left h =
       epoch = subst (λ k. k.epoch ≤ k.next) (sym (stored-signs s (Accusation a) c)) (epoch-accusation c.node.stored a h.epoch);
     }
 
-keeping-formed : (s : Setting) (own : PublicKey) → IsRanged s → 1 ≤ s.group.t → OwnSignaturesVerify s own → KeepsNode s IsSignedRecord (Formed s own)
+keeping-formed : (s : Setting) (own : Key) → IsRanged s → 1 ≤ s.group.t → OwnSignaturesVerify s own → KeepsNode s IsSignedRecord (Formed s own)
 keeping-formed s own ranged some sign =
     record {
       taken = λ r c given fine h. formed-takes_given s own r c some sign given fine h;
@@ -203,7 +203,7 @@ stored-kit : (s : Setting) (records : List Record) (c : Call) → (takes_all s r
 stored-kit s [] c = refl
 stored-kit s (r ∷ records) c = stored-kit s records (takes s r c) ∙ stored-takes s r c
 
-formed-started : (s : Setting) (own : PublicKey) (seed : List ℕ) (certificates : List Record) (stored : Stored) → AllByRecursion Certifies certificates → list_any (λ r. is_certificate_for s.me r.body) certificates ≡ true
+formed-started : (s : Setting) (own : Key) (seed : List ℕ) (certificates : List Record) (stored : Stored) → AllByRecursion Certifies certificates → list_any (λ r. is_certificate_for s.me r.body) certificates ≡ true
     → AllByRecursion (IsCertifiedBy s own) certificates → OwnSignaturesVerify s own → stored.next < s.indexes → IsRanged s → AllByRecursion IsSignedRecord certificates → stored.epoch ≤ stored.next → Formed s own (started s seed certificates stored).node
 unfolding started
 formed-started s own seed certificates stored all mine good sign left ranged spelled epoch =

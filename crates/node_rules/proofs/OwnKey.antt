@@ -9,7 +9,7 @@ use Rattle.std.proofs.lemmas.Bool.Decides.{nat_tests}
 use Rattle.ff_ids.specs.declared.AccBody.{AccBody}
 use Rattle.ff_ids.specs.declared.summary.RecordKey.TheVariants as keys
 use Rattle.ff_ids.specs.Steps.{Event, Ticks, Report, step}
-use Rattle.lms_tree.specs.declared.key.PublicKey.{PublicKey}
+use Rattle.records.specs.declared.keys.Key.{Key}
 use Rattle.records.specs.declared.CertBody.{CertBody}
 use Rattle.records.specs.declared.Body.{Body}
 use Rattle.records.specs.declared.Body.TheVariants.{Certificate, Note, Accusation}
@@ -35,7 +35,7 @@ use Rattle.node_rules.proofs.Keeping.{Keeps, keeps-call}
 
 -- The keys of the first are those of the second.
 abbrev pub Stay : Node → Node → Type 0
-Stay n m = (k : ℕ) (key : PublicKey) → public_key_of n k ≡ Some key → public_key_of m k ≡ Some key
+Stay n m = (k : ℕ) (key : Key) → public_key_of n k ≡ Some key → public_key_of m k ≡ Some key
 
 -- ---- what is held
 
@@ -49,7 +49,7 @@ ended-certificate r held m = fold-without (r.expired ++ r.fell) held m
 same_number : (a b : ℕ) → eq_by_cmp key_cmp (keys.Certificate a) (keys.Certificate b) ≡ true → a ≡ b
 same_number a b h = grind (arith, nat_tests, h)
 
-pub certificate-with : (r : Record) (held : Holding) (b : Body) (m : ℕ) (key : PublicKey) → r.body ≡ b
+pub certificate-with : (r : Record) (held : Holding) (b : Body) (m : ℕ) (key : Key) → r.body ≡ b
     → ((c : CertBody) → b ≡ Certificate c → c.member ≡ m → ⊥)
     → option_map (λ c. c.key) (option_and_then (λ x. certificate_in x.body) (held (keys.Certificate m))) ≡ Some key
     → option_map (λ c. c.key) (option_and_then (λ x. certificate_in x.body) (with_record r held (keys.Certificate m))) ≡ Some key
@@ -70,7 +70,7 @@ map-none f (Some x) h = cc
 none-some : {X Y : Type 0} (f : X → Y) (o : Option X) (y : Y) → o ≡ None → option_map f o ≡ Some y → ⊥
 none-some f o y none some = cc
 
-not_kept : (s : Setting) (n : Node) (r : Record) (c : CertBody) (k : ℕ) (key : PublicKey) → refusal s n r ≡ None → public_key_of n k ≡ Some key → r.body ≡ Certificate c → c.member ≡ k → ⊥
+not_kept : (s : Setting) (n : Node) (r : Record) (c : CertBody) (k : ℕ) (key : Key) → refusal s n r ≡ None → public_key_of n k ≡ Some key → r.body ≡ Certificate c → c.member ≡ k → ⊥
 unfolding refusal
 not_kept s n r c k key fine some is who =
     let fine2 : refusal_of s n r (Certificate c) ≡ None = sym (ap (refusal_of s n r) is) ∙ fine in
@@ -80,7 +80,7 @@ not_kept s n r c k key fine some is who =
 ended-key : (r : Report) (held : Holding) (m : ℕ) → option_map (λ c. c.key) (option_and_then (λ x. certificate_in x.body) (without_ended r held (keys.Certificate m))) ≡ option_map (λ c. c.key) (option_and_then (λ x. certificate_in x.body) (held (keys.Certificate m)))
 ended-key r held m = ap (λ o. option_map (λ c. c.key) (option_and_then (λ x. certificate_in x.body) o)) (ended-certificate r held m)
 
-stay-takes : (s : Setting) (r : Record) (c : Call) → ((x : CertBody) (k : ℕ) (key : PublicKey) → public_key_of c.node k ≡ Some key → r.body ≡ Certificate x → x.member ≡ k → ⊥) → Stay c.node (takes s r c).node
+stay-takes : (s : Setting) (r : Record) (c : Call) → ((x : CertBody) (k : ℕ) (key : Key) → public_key_of c.node k ≡ Some key → r.body ≡ Certificate x → x.member ≡ k → ⊥) → Stay c.node (takes s r c).node
 unfolding takes lives certificate_of
 stay-takes s r c free = λ k key h.
     let rep : Report = (step s.group (state_of s c.node) (event_of s r.body)).report in
@@ -91,12 +91,12 @@ unfolding lives certificate_of
 stay-lives s e c = λ k key h. ended-key (step s.group (state_of s c.node) e).report c.node.held k ∙ h
 
 -- The own key is held, and no index is spent that it hasn't.
-pub record KeepsKey (s : Setting) (own : PublicKey) (n : Node) : Type 0 where
+pub record KeepsKey (s : Setting) (own : Key) (n : Node) : Type 0 where
   pub own_key : public_key_of n s.me ≡ Some own
   pub within : n.stored.next ≤ s.indexes
 
 -- What was held of certificates stays.
-more : (s : Setting) (own : PublicKey) (n m : Node) → Stay n m → m.stored ≡ n.stored → KeepsKey s own n → KeepsKey s own m
+more : (s : Setting) (own : Key) (n m : Node) → Stay n m → m.stored ≡ n.stored → KeepsKey s own n → KeepsKey s own m
 more s own n m stay same h = record { own_key = stay s.me own h.own_key; within = subst (λ k. k.next ≤ s.indexes) (sym same) h.within }
 
 IsOwnBody : Setting → Body → Type 0
@@ -122,11 +122,11 @@ stored_after-next stored (Accusation a) = refl
 within-spends : (s : Setting) (n : Node) (b : Body) → is_used_up s n ≡ false → n.stored.next ≤ s.indexes → (stored_after n.stored b).next ≤ s.indexes
 within-spends s n b left within = omega (arith, stored_after-next n.stored b, index-left s n left within)
 
-key-spends : (s : Setting) (own : PublicKey) (b : Body) (c : Call) → is_used_up s c.node ≡ false → KeepsKey s own c.node → KeepsKey s own (spends s b c).node
+key-spends : (s : Setting) (own : Key) (b : Body) (c : Call) → is_used_up s c.node ≡ false → KeepsKey s own c.node → KeepsKey s own (spends s b c).node
 unfolding certificate_of
 key-spends s own b c left h = record { own_key = h.own_key; within = within-spends s c.node b left h.within }
 
-key-signs : (s : Setting) (own : PublicKey) (b : Body) (c : Call) → IsOwnBody s b → is_used_up s c.node ≡ false → KeepsKey s own c.node → KeepsKey s own (signs s b c).node
+key-signs : (s : Setting) (own : Key) (b : Body) (c : Call) → IsOwnBody s b → is_used_up s c.node ≡ false → KeepsKey s own c.node → KeepsKey s own (signs s b c).node
 unfolding signs
 key-signs s own b c mine left h =
     let c1 : Call = spends s b c in
@@ -135,21 +135,21 @@ key-signs s own b c mine left h =
 
 -- ---- what each call keeps
 
-key-takes : (s : Setting) (own : PublicKey) (r : Record) (c : Call) → refusal s c.node r ≡ None → KeepsKey s own c.node → KeepsKey s own (takes s r c).node
+key-takes : (s : Setting) (own : Key) (r : Record) (c : Call) → refusal s c.node r ≡ None → KeepsKey s own c.node → KeepsKey s own (takes s r c).node
 key-takes s own r c fine h = more s own c.node (takes s r c).node (stay-takes s r c (λ x k key some is who. not_kept s c.node r x k key fine some is who)) (stored-takes s r c) h
 
-key-sends : (s : Setting) (own : PublicKey) (d : Datagram) (c : Call) (to : ℕ) → KeepsKey s own c.node → KeepsKey s own (sends s d c to).node
+key-sends : (s : Setting) (own : Key) (d : Datagram) (c : Call) (to : ℕ) → KeepsKey s own c.node → KeepsKey s own (sends s d c to).node
 unfolding sends
 key-sends s own d c to h = h
 
-key-ticks : (s : Setting) (own : PublicKey) (c : Call) → KeepsKey s own c.node → KeepsKey s own (lives s Ticks c).node
+key-ticks : (s : Setting) (own : Key) (c : Call) → KeepsKey s own c.node → KeepsKey s own (lives s Ticks c).node
 key-ticks s own c h = more s own c.node (lives s Ticks c).node (stay-lives s Ticks c) (stored-lives s Ticks c) h
 
-key-probed : (s : Setting) (own : PublicKey) (n : Node) (p : History) → KeepsKey s own n → KeepsKey s own (record n { probes = p })
+key-probed : (s : Setting) (own : Key) (n : Node) (p : History) → KeepsKey s own n → KeepsKey s own (record n { probes = p })
 unfolding certificate_of
 key-probed s own n p h = record { own_key = h.own_key; within = h.within }
 
-keeping-key : (s : Setting) (own : PublicKey) → Keeps s (λ c. KeepsKey s own c.node)
+keeping-key : (s : Setting) (own : Key) → Keeps s (λ c. KeepsKey s own c.node)
 unfolding IsOwnBody
 keeping-key s own =
     record {
@@ -164,7 +164,7 @@ keeping-key s own =
       probed = λ p c h. key-probed s own c.node p h;
     }
 
-pub key-calls : (s : Setting) (own : PublicKey) (n : Node) (inputs : List Input) → KeepsKey s own n → KeepsKey s own (after_calls s n inputs)
+pub key-calls : (s : Setting) (own : Key) (n : Node) (inputs : List Input) → KeepsKey s own n → KeepsKey s own (after_calls s n inputs)
 key-calls s own n [] h = h
 key-calls s own n (i ∷ inputs) h = key-calls s own (call_of s n i).node inputs (keeps-call s (λ c. KeepsKey s own c.node) (keeping-key s own) n i h)
 
@@ -176,7 +176,7 @@ takes_all s records c = fold (λ c r. takes s r c) c records
 abbrev Certifies : Record → Type 0
 Certifies r = (x : CertBody) × (r.body ≡ Certificate x)
 
-key-with : (r : Record) (held : Holding) (x : CertBody) (m : ℕ) (own : PublicKey) → r.body ≡ Certificate x → (x.member ≡ m → x.key ≡ own)
+key-with : (r : Record) (held : Holding) (x : CertBody) (m : ℕ) (own : Key) → r.body ≡ Certificate x → (x.member ≡ m → x.key ≡ own)
     → (x.member ≡ m) ⊎ (option_map (λ c. c.key) (option_and_then (λ y. certificate_in y.body) (held (keys.Certificate m))) ≡ Some own)
     → option_map (λ c. c.key) (option_and_then (λ y. certificate_in y.body) (with_record r held (keys.Certificate m))) ≡ Some own
 key-with r held x m own is mine before =
@@ -191,19 +191,19 @@ key-with r held x m own is mine before =
     not_itself : (a b : ℕ) → b ≡ a → eq_by_cmp key_cmp (keys.Certificate a) (keys.Certificate b) ≡ false → ⊥
     not_itself a b e apart = grind (arith, nat_tests, e, apart)
 
-own-takes : (s : Setting) (own : PublicKey) (r : Record) (c : Call) (x : CertBody) → r.body ≡ Certificate x → (x.member ≡ s.me → x.key ≡ own) → (x.member ≡ s.me) ⊎ (public_key_of c.node s.me ≡ Some own) → public_key_of (takes s r c).node s.me ≡ Some own
+own-takes : (s : Setting) (own : Key) (r : Record) (c : Call) (x : CertBody) → r.body ≡ Certificate x → (x.member ≡ s.me → x.key ≡ own) → (x.member ≡ s.me) ⊎ (public_key_of c.node s.me ≡ Some own) → public_key_of (takes s r c).node s.me ≡ Some own
 unfolding takes lives certificate_of
 own-takes s own r c x is mine before =
     let rep : Report = (step s.group (state_of s c.node) (event_of s r.body)).report in
     key-with r (without_ended rep c.node.held) x s.me own is mine (elim before [ inl who ↦ inl who | inr h ↦ inr (ended-key rep c.node.held s.me ∙ h) ])
 
-kit-keeps-own : (s : Setting) (own : PublicKey) (records : List Record) (c : Call) → AllByRecursion Certifies records → AllByRecursion (IsCertifiedBy s own) records → public_key_of c.node s.me ≡ Some own → public_key_of (takes_all s records c).node s.me ≡ Some own
+kit-keeps-own : (s : Setting) (own : Key) (records : List Record) (c : Call) → AllByRecursion Certifies records → AllByRecursion (IsCertifiedBy s own) records → public_key_of c.node s.me ≡ Some own → public_key_of (takes_all s records c).node s.me ≡ Some own
 kit-keeps-own s own [] c all good h = h
 kit-keeps-own s own (r ∷ records) c all good h =
     let x : CertBody = all.0.0 in
     kit-keeps-own s own records (takes s r c) all.1 good.1 (own-takes s own r c x all.0.1 (good.0.1 x all.0.1) (inr h))
 
-kit-has-own : (s : Setting) (own : PublicKey) (records : List Record) (c : Call) → AllByRecursion Certifies records → AllByRecursion (IsCertifiedBy s own) records → list_any (λ r. is_certificate_for s.me r.body) records ≡ true → public_key_of (takes_all s records c).node s.me ≡ Some own
+kit-has-own : (s : Setting) (own : Key) (records : List Record) (c : Call) → AllByRecursion Certifies records → AllByRecursion (IsCertifiedBy s own) records → list_any (λ r. is_certificate_for s.me r.body) records ≡ true → public_key_of (takes_all s records c).node s.me ≡ Some own
 kit-has-own s own [] c all good h = cc
 kit-has-own s own (r ∷ records) c all good h =
     let x : CertBody = all.0.0 in
@@ -264,7 +264,7 @@ within-life s seed certificates stored inputs left =
     let kept : c.node.stored ≡ stored = stored-opened s seed certificates stored in
     within-calls s (signs s (first_note s stored) c).node inputs (within-signs s (first_note s stored) c (opened-left s c.node stored kept left) (opened-within s c.node stored kept left))
 
-pub key-started : (s : Setting) (own : PublicKey) (seed : List ℕ) (certificates : List Record) (stored : Stored) → AllByRecursion Certifies certificates → list_any (λ r. is_certificate_for s.me r.body) certificates ≡ true
+pub key-started : (s : Setting) (own : Key) (seed : List ℕ) (certificates : List Record) (stored : Stored) → AllByRecursion Certifies certificates → list_any (λ r. is_certificate_for s.me r.body) certificates ≡ true
     → AllByRecursion (IsCertifiedBy s own) certificates → stored.next < s.indexes → KeepsKey s own (started s seed certificates stored).node
 unfolding started IsOwnBody
 key-started s own seed certificates stored all mine good left =

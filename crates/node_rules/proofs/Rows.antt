@@ -7,7 +7,8 @@ use Rattle.ff_ids.specs.declared.Fault.TheVariants as faults
 use Rattle.ff_ids.specs.Views.{all_numbers, in_view_by}
 use Rattle.lms_ots.specs.declared.OtsKind.TheVariants.{W8}
 use Rattle.lms_tree.specs.declared.TreeKind.TheVariants.{H5}
-use Rattle.lms_tree.specs.declared.key.PublicKey.{PublicKey}
+use Rattle.records.specs.declared.keys.Key.{Key}
+use Rattle.records.specs.declared.keys.Key.TheVariants as keys
 use Rattle.records.specs.declared.Body.{Body}
 use Rattle.records.specs.declared.Body.TheVariants.{Certificate, Note, Accusation}
 use Rattle.records.specs.declared.Record.{Record}
@@ -34,8 +35,12 @@ use Rattle.ff_ids.specs.Steps.{Accuses, Notes}
 abbrev group : Group
 group = record { tag = replicate 16 0; t = 1; timeout = 4; period = 1; misses = 2 }
 
-abbrev key : PublicKey
-key = record { tree = H5; ots = W8; id = replicate 16 0; root = replicate 32 0 }
+-- a key whose identifier has these bytes
+abbrev pub key_with : ℕ → Key
+key_with byte = keys.Lms (record { tree = H5; ots = W8; id = replicate 16 byte; root = replicate 32 0 })
+
+abbrev key : Key
+key = key_with 0
 
 -- The places on the three rings.
 abbrev places : ℕ → List (List ℕ)

@@ -8,7 +8,7 @@ use Rattle.ff_ids.specs.declared.Fault.{Fault}
 use Rattle.ff_ids.specs.Faults.{note_fault, accusation_fault}
 use Rattle.ff_ids.specs.Steps.{Event, Ticks as Passes, Report, step}
 use Rattle.life_laws.proofs.Lists.{In, In-from_Contains, All-at, All-from_In, In-append_cases, In-from_map}
-use Rattle.lms_tree.specs.declared.key.PublicKey.{PublicKey}
+use Rattle.records.specs.declared.keys.Key.{Key}
 use Rattle.records.specs.declared.Body.{Body}
 use Rattle.records.specs.declared.Body.TheVariants.{Certificate, Note, Accusation}
 use Rattle.records.specs.declared.CertBody.{CertBody}
@@ -152,15 +152,15 @@ signed-signs s b c r i = signed-spends s b c r (signed-takes s (own_record s c.n
 -- ---- a call
 
 -- A correct node's call, of which everything that it has signed is authentic.
-record Good (s : Setting) (own : PublicKey) (c : Call) : Type 0 where
+record Good (s : Setting) (own : Key) (c : Call) : Type 0 where
   all : KeepsAll s own c.node
   signed : (r : Record) → In (signed_in s c) r → IsAuthentic s c.node r
 
-good-then : (s : Setting) (own : PublicKey) (c d : Call) → KeepsAll s own d.node → Follows s c.node d.node → ((r : Record) → In (signed_in s d) r → In (signed_in s c) r) → Good s own c → Good s own d
+good-then : (s : Setting) (own : Key) (c d : Call) → KeepsAll s own d.node → Follows s c.node d.node → ((r : Record) → In (signed_in s d) r → In (signed_in s c) r) → Good s own c → Good s own d
 good-then s own c d all f same h = record { all = all; signed = λ r i. authentic-follows s c.node d.node r f (h.signed r (same r i)) }
 
 -- an own signature, with an index that is left
-good-signs : (s : Setting) (own : PublicKey) (b : Body) (c : Call) → OwnSignaturesVerify s own → author_key s c.node b ≡ public_key_of c.node s.me → ((x : CertBody) → b ≡ Certificate x → ⊥) → is_used_up s c.node ≡ false
+good-signs : (s : Setting) (own : Key) (b : Body) (c : Call) → OwnSignaturesVerify s own → author_key s c.node b ≡ public_key_of c.node s.me → ((x : CertBody) → b ≡ Certificate x → ⊥) → is_used_up s c.node ≡ false
     → KeepsAll s own (signs s b c).node → Good s own c → Good s own (signs s b c)
 good-signs s own b c sign mine other left all h =
     let d : Call = signs s b c in
@@ -175,7 +175,7 @@ good-signs s own b c sign mine other left all h =
       ];
     }
 
-carrying : (s : Setting) (own : PublicKey) → 1 ≤ s.group.t → OwnSignaturesVerify s own → Carries s (Good s own)
+carrying : (s : Setting) (own : Key) → 1 ≤ s.group.t → OwnSignaturesVerify s own → Carries s (Good s own)
 carrying s own some sign =
     let k = keeping-all s own some sign in
     record {
@@ -193,7 +193,7 @@ carrying s own some sign =
       probed = λ p c h. good-then s own c (record c { node = record c.node { probes = p } }) (k.probed p c h.all) ((following s c.node).probed p c (follows-itself s c.node)) (λ r i. i) h;
     }
 
-good-begun : (s : Setting) (own : PublicKey) (n : Node) → KeepsAll s own n → Good s own (begun n)
+good-begun : (s : Setting) (own : Key) (n : Node) → KeepsAll s own n → Good s own (begun n)
 good-begun s own n all = record { all = all; signed = λ r i. absurd i }
 
 -- ---- what a call accepts
@@ -232,7 +232,7 @@ call-accepts s n Leaves r i = absurd i
 
 -- ---- lives
 
-gathered-authentic : (s : Setting) (own : PublicKey) → 1 ≤ s.group.t → OwnSignaturesVerify s own → (n : Node) (known : List Record) (inputs : List Input) → KeepsAll s own n → ((r : Record) → In known r → IsAuthentic s n r)
+gathered-authentic : (s : Setting) (own : Key) → 1 ≤ s.group.t → OwnSignaturesVerify s own → (n : Node) (known : List Record) (inputs : List Input) → KeepsAll s own n → ((r : Record) → In known r → IsAuthentic s n r)
     → KeepsAll s own (after_calls s n inputs) × ((r : Record) → In (gathered s n known inputs) r → IsAuthentic s (after_calls s n inputs) r)
 gathered-authentic s own some sign n known [] all h = (all, h)
 gathered-authentic s own some sign n known (i ∷ inputs) all h =
@@ -253,14 +253,14 @@ signed-takes_all : (s : Setting) (records : List Record) (c : Call) (r : Record)
 signed-takes_all s [] c r i = i
 signed-takes_all s (x ∷ records) c r i = signed-takes s x c r (signed-takes_all s records (takes s x c) r i)
 
-certified-authentic : (s : Setting) (own : PublicKey) (n : Node) (records : List Record) → AllByRecursion Certifies records → AllByRecursion (IsCertifiedBy s own) records → (r : Record) → In records r → IsAuthentic s n r
+certified-authentic : (s : Setting) (own : Key) (n : Node) (records : List Record) → AllByRecursion Certifies records → AllByRecursion (IsCertifiedBy s own) records → (r : Record) → In records r → IsAuthentic s n r
 certified-authentic s own n records all good r i =
     let c = All-at Certifies records r all i in
     let by = All-at (IsCertifiedBy s own) records r good i in
     record { key = s.authority; author_is = ap (author_key s n) c.1; verifies = by.0 }
 
 -- the first note
-started-signs : (s : Setting) (own : PublicKey) (seed : List ℕ) (certificates : List Record) (stored : Stored) → OwnSignaturesVerify s own → stored.next < s.indexes → KeepsAll s own (started s seed certificates stored).node
+started-signs : (s : Setting) (own : Key) (seed : List ℕ) (certificates : List Record) (stored : Stored) → OwnSignaturesVerify s own → stored.next < s.indexes → KeepsAll s own (started s seed certificates stored).node
     → (r : Record) → In (signed_in s (started s seed certificates stored)) r → IsAuthentic s (started s seed certificates stored).node r
 unfolding started
 started-signs s own seed certificates stored sign left all r i =
@@ -275,7 +275,7 @@ started-signs s own seed certificates stored sign left all r i =
           subst (IsAuthentic s (signs s b c).node) same first
     ]
 
-life-authentic : (s : Setting) (own : PublicKey) (seed : List ℕ) (certificates : List Record) (stored : Stored) (inputs : List Input) → 1 ≤ s.group.t → IsKit s certificates → AllByRecursion (IsCertifiedBy s own) certificates
+life-authentic : (s : Setting) (own : Key) (seed : List ℕ) (certificates : List Record) (stored : Stored) (inputs : List Input) → 1 ≤ s.group.t → IsKit s certificates → AllByRecursion (IsCertifiedBy s own) certificates
     → OwnSignaturesVerify s own → stored.next < s.indexes
     → KeepsAll s own (life_of s seed certificates stored inputs) × ((r : Record) → In (known_in s seed certificates stored inputs) r → IsAuthentic s (life_of s seed certificates stored inputs) r)
 life-authentic s own seed certificates stored inputs some kit good sign left =
@@ -289,7 +289,7 @@ life-authentic s own seed certificates stored inputs some kit good sign left =
 
 -- ---- what is sent
 
-sends-authentic : (s : Setting) (own : PublicKey) (known : List Record) (n : Node) (c : Call) → ((r : Record) → In known r → IsAuthentic s n r) → Follows s n c.node → Good s own c → SendsKnown s known c → SendsAuthentic s c
+sends-authentic : (s : Setting) (own : Key) (known : List Record) (n : Node) (c : Call) → ((r : Record) → In known r → IsAuthentic s n r) → Follows s n c.node → Good s own c → SendsKnown s known c → SendsAuthentic s c
 sends-authentic s own known n c are f good sent =
     let all : List Record = known ++ signed_in s c in
     let each : (r : Record) → In all r → IsAuthentic s c.node r =
@@ -304,7 +304,7 @@ sends-authentic s own known n c are f good sent =
           (λ r j. each r (In-from_Contains all r (All-at (Contains all) (records_of h.datagram) r h.records j)));
     })
 
-pub sent-authentic : (s : Setting) (own : PublicKey) (seed : List ℕ) (certificates : List Record) (stored : Stored) (inputs : List Input) (i : Input) (fails_at : Option ℕ) → 1 ≤ s.group.t → IsKit s certificates
+pub sent-authentic : (s : Setting) (own : Key) (seed : List ℕ) (certificates : List Record) (stored : Stored) (inputs : List Input) (i : Input) (fails_at : Option ℕ) → 1 ≤ s.group.t → IsKit s certificates
     → AllByRecursion (IsCertifiedBy s own) certificates → OwnSignaturesVerify s own → stored.next < s.indexes → SendsAuthentic s (called s (life_of s seed certificates stored inputs) i fails_at)
 sent-authentic s own seed certificates stored inputs i fails_at some kit good sign left =
     let n : Node = life_of s seed certificates stored inputs in

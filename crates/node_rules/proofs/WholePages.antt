@@ -18,7 +18,7 @@ use Rattle.ff_ids.specs.Notes.{note_cmp, newest}
 use Rattle.ff_ids.specs.Summaries.{page_of_member}
 use Rattle.life_laws.proofs.Lists.{In, In-filter, In-from_filter, In-from_map, All-at}
 use Rattle.life_laws.proofs.NoteLemmas.{newest-fits}
-use Rattle.lms_tree.specs.declared.key.PublicKey.{PublicKey}
+use Rattle.records.specs.declared.keys.Key.{Key}
 use Rattle.records.specs.declared.CertBody.{CertBody}
 use Rattle.records.specs.declared.Body.{Body}
 use Rattle.records.specs.declared.Body.TheVariants.{Certificate, Note, Accusation}
@@ -80,7 +80,7 @@ certificate-number : (m : ℕ) (x : CertBody) → keys.Certificate x.member ≡ 
 certificate-number m x e = cc
 
 -- whoever has a certificate's place has a certificate
-certified-place : (s : Setting) (own : PublicKey) (n : Node) (m : ℕ) → KeepsAll s own n → has_certificate n.held m ≡ true → is_certified n m ≡ true
+certified-place : (s : Setting) (own : Key) (n : Node) (m : ℕ) → KeepsAll s own n → has_certificate n.held m ≡ true → is_certified n m ≡ true
 unfolding certificate_of
 certified-place s own n m h has = by (n.held (keys.Certificate m)) refl
   where
@@ -142,7 +142,7 @@ data Says (s : Setting) (n : Node) (theirs : List SummaryEntry) (here : SummaryE
   less : (there : SummaryEntry) → entry_of theirs note.member ≡ Some there → is_certified n note.member ≡ true → is_lt (entry_cmp there here) ≡ true → Says s n theirs here note
   enough : HasAtLeast (state_of s n).notes note.member note → Says s n theirs here note
 
-says : (s : Setting) (own : PublicKey) (n : Node) (number : ℕ) (mine : Holding) (note : NoteBody) → KeepsAll s own n → note_held mine note.member ≡ Some note → 0 < note.epoch
+says : (s : Setting) (own : Key) (n : Node) (number : ℕ) (mine : Holding) (note : NoteBody) → KeepsAll s own n → note_held mine note.member ≡ Some note → 0 < note.epoch
     → Says s n (page n number).listed (entry_held mine note.member) note
 says s own n number mine note h held some = by (entry_of theirs m) refl
   where
@@ -191,7 +191,7 @@ lacks-note mine theirs e i some behind =
 -- ---- the whole of it is handled
 
 -- The one's page and the other's earlier summary of it, and where the other stands as it is handed what it lacked.
-pub record Meets (a b : Setting) (own other_own : PublicKey) (n earlier : Node) (c : Call) : Type 0 where
+pub record Meets (a b : Setting) (own other_own : Key) (n earlier : Node) (c : Call) : Type 0 where
   pub group : AreOfOneGroup a b
   pub some : 1 ≤ b.group.t
   pub signs : OwnSignaturesVerify b other_own
@@ -215,7 +215,7 @@ record Author (a : Setting) (n : Node) (note : NoteBody) : Type 0 where
   number : cert.member ≡ note.member
   by_authority : a.verifies a.authority rec.rec ≡ true
 
-author : (a : Setting) (own : PublicKey) (n : Node) (note : NoteBody) → KeepsAll a own n → newest (state_of a n).notes note.member ≡ Some note → Author a n note
+author : (a : Setting) (own : Key) (n : Node) (note : NoteBody) → KeepsAll a own n → newest (state_of a n).notes note.member ≡ Some note → Author a n note
 author a own n note h is =
     let u = h.upholds in
     let holds : HoldsNote n note = holds-note n note (u.notes note.member ∙ is) in
@@ -232,10 +232,10 @@ author a own n note h is =
       by_authority = u.certificates note.member rec.rec rec.place;
     }
 
-verdict : (a b : Setting) (key : PublicKey) (r : Record) → AreOfOneGroup a b → a.verifies key r ≡ true → b.verifies key r ≡ true
+verdict : (a b : Setting) (key : Key) (r : Record) → AreOfOneGroup a b → a.verifies key r ≡ true → b.verifies key r ≡ true
 verdict a b key r one h = sym (ap (λ f. f key r) one.verdicts) ∙ h
 
-note-of : (a b : Setting) (own : PublicKey) (n : Node) (note : NoteBody) → AreOfOneGroup a b → KeepsAll a own n → newest (state_of a n).notes note.member ≡ Some note → (w : Author a n note) → IsNoteOf b n w.holds.rec note
+note-of : (a b : Setting) (own : Key) (n : Node) (note : NoteBody) → AreOfOneGroup a b → KeepsAll a own n → newest (state_of a n).notes note.member ≡ Some note → (w : Author a n note) → IsNoteOf b n w.holds.rec note
 note-of a b own n note one h is w =
     let allowed : note_mask a.group.t note.mask.0 ≡ true = All-at (λ (x : NoteBody). note_mask a.group.t x.mask.0 ≡ true) (state_of a n).notes note h.upholds.allowed (newest-fits (state_of a n).notes note.member note is).0 in
     record {
@@ -246,7 +246,7 @@ note-of a b own n note one h is w =
       allowed = sym (ap (λ g. note_mask g.t note.mask.0) one.group) ∙ allowed;
     }
 
-brings-certificate : (a b : Setting) (own other_own : PublicKey) (n earlier : Node) (c d : Call) (note : NoteBody) (records : List Record) → Meets a b own other_own n earlier c → (w : Author a n note)
+brings-certificate : (a b : Setting) (own other_own : Key) (n earlier : Node) (c d : Call) (note : NoteBody) (records : List Record) → Meets a b own other_own n earlier c → (w : Author a n note)
     → AllByRecursion (IsHeld n) records → In records w.rec.rec → Stands b other_own n c.node d → is_certified (handles_all b records d).node note.member ≡ true
 brings-certificate a b own other_own n earlier c d note records m w all i h =
     let handing : Handing b other_own n = record { some = m.some; signs = m.signs; filed = m.theirs.upholds.filed } in
@@ -257,7 +257,7 @@ brings-certificate a b own other_own n earlier c d note records m w all i h =
     (λ x r known. certified-kept b x.node (handles true b x r).node note.member (follows-handles b x r) known)
     records all i d h
 
-brings-note : (a b : Setting) (own other_own : PublicKey) (n earlier : Node) (c d : Call) (note : NoteBody) (records : List Record) → Meets a b own other_own n earlier c → newest (state_of a n).notes note.member ≡ Some note → (w : Author a n note)
+brings-note : (a b : Setting) (own other_own : Key) (n earlier : Node) (c d : Call) (note : NoteBody) (records : List Record) → Meets a b own other_own n earlier c → newest (state_of a n).notes note.member ≡ Some note → (w : Author a n note)
     → AllByRecursion (IsHeld n) records → In records w.holds.rec → Stands b other_own n c.node d → is_certified d.node note.member ≡ true → HasAtLeast (state_of b (handles_all b records d).node).notes note.member note
 brings-note a b own other_own n earlier c d note records m is w all i h certified =
     let handing : Handing b other_own n = record { some = m.some; signs = m.signs; filed = m.theirs.upholds.filed } in
@@ -285,7 +285,7 @@ unfolding page
 page-number n number = refl
 
 -- Of each member of the page a note is known that is at least the one's.
-pub known-page : (a b : Setting) (own other_own : PublicKey) (n earlier : Node) (number : ℕ) (c : Call) (note : NoteBody) → Meets a b own other_own n earlier c
+pub known-page : (a b : Setting) (own other_own : Key) (n earlier : Node) (number : ℕ) (c : Call) (note : NoteBody) → Meets a b own other_own n earlier c
     → page_of_member note.member ≡ number → newest (state_of a n).notes note.member ≡ Some note → 0 < note.epoch
     → HasAtLeast (state_of b (handles_all b (all_lacking n (page earlier number)) c).node).notes note.member note
 known-page a b own other_own n earlier number c note m of is some =

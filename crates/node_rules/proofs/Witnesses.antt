@@ -11,7 +11,7 @@ use Rattle.ff_ids.specs.Views.{State}
 use Rattle.ff_ids.specs.Faults.{note_fault, accusation_fault}
 use Rattle.ff_ids.specs.Steps.{Event, Joins, Notes, Accuses, Ticks as Passes}
 use Rattle.life_laws.proofs.Lists.{In, In-from_Contains, Contains-from_In, In-append_left, In-append_right}
-use Rattle.lms_tree.specs.declared.key.PublicKey.{PublicKey}
+use Rattle.records.specs.declared.keys.Key.{Key}
 use Rattle.records.specs.declared.Body.{Body}
 use Rattle.records.specs.declared.Body.TheVariants.{Certificate, Note, Accusation}
 use Rattle.records.specs.declared.CertBody.{CertBody}
@@ -49,11 +49,11 @@ use Rattle.node_rules.proofs.Correctness.{KeepsAll, Verifies, verified, key-foll
 -- ---- a witness
 
 -- A record that is known, or signed in the call, has this body and verifies under the author's key.
-record Witness (s : Setting) (base : List Record) (c : Call) (author : Option PublicKey) (body : Body) : Type 0 where
+record Witness (s : Setting) (base : List Record) (c : Call) (author : Option Key) (body : Body) : Type 0 where
   rec : Record
   here : IsIn base s c rec
   says : rec.body ≡ body
-  key : PublicKey
+  key : Key
   author_is : author ≡ Some key
   verifies : s.verifies key rec ≡ true
 
@@ -65,11 +65,11 @@ Witnessed s base c (Accuses a) = Witness s base c (public_key_of c.node a.accuse
 Witnessed s base c Passes = Unit {0}
 
 -- A correct node's call, of whose life each event has one.
-record Vouched (s : Setting) (own : PublicKey) (base : List Record) (c : Call) : Type 0 where
+record Vouched (s : Setting) (own : Key) (base : List Record) (c : Call) : Type 0 where
   all : KeepsAll s own c.node
   events : AllByRecursion (Witnessed s base c) c.node.lived
 
-witness-more : (s : Setting) (base : List Record) (c d : Call) (author later : Option PublicKey) (body : Body) → Grown s c d → ((key : PublicKey) → author ≡ Some key → later ≡ Some key) → Witness s base c author body → Witness s base d later body
+witness-more : (s : Setting) (base : List Record) (c d : Call) (author later : Option Key) (body : Body) → Grown s c d → ((key : Key) → author ≡ Some key → later ≡ Some key) → Witness s base c author body → Witness s base d later body
 witness-more s base c d author later body g stays w =
     record { rec = w.rec; here = in-more s c d base w.rec g w.here; says = w.says; key = w.key; author_is = stays w.key w.author_is; verifies = w.verifies }
 
@@ -88,28 +88,28 @@ all-push P [] x all h = (h, tt)
 all-push P (y ∷ xs) x all h = (all.0, all-push P xs x all.1 h)
 
 -- The life is the same.
-vouched-same : (s : Setting) (own : PublicKey) (base : List Record) (c d : Call) → Grown s c d → Follows s c.node d.node → KeepsAll s own d.node → d.node.lived ≡ c.node.lived → Vouched s own base c → Vouched s own base d
+vouched-same : (s : Setting) (own : Key) (base : List Record) (c d : Call) → Grown s c d → Follows s c.node d.node → KeepsAll s own d.node → d.node.lived ≡ c.node.lived → Vouched s own base c → Vouched s own base d
 vouched-same s own base c d g f all lived h = record { all = all; events = subst (AllByRecursion (Witnessed s base d)) (sym lived) (all-more s base c d g f c.node.lived h.events) }
 
 -- The life has one event more.
-vouched-event : (s : Setting) (own : PublicKey) (base : List Record) (e : Event) (c d : Call) → Grown s c d → Follows s c.node d.node → KeepsAll s own d.node → d.node.lived ≡ c.node.lived ++ e ∷ [] → Witnessed s base d e
+vouched-event : (s : Setting) (own : Key) (base : List Record) (e : Event) (c d : Call) → Grown s c d → Follows s c.node d.node → KeepsAll s own d.node → d.node.lived ≡ c.node.lived ++ e ∷ [] → Witnessed s base d e
     → Vouched s own base c → Vouched s own base d
 vouched-event s own base e c d g f all lived w h =
     record { all = all; events = subst (AllByRecursion (Witnessed s base d)) (sym lived) (all-push (Witnessed s base d) c.node.lived e (all-more s base c d g f c.node.lived h.events) w) }
 
 -- ---- what a correct node is, for these steps
 
-record Signs (s : Setting) (own : PublicKey) : Type 0 where
+record Signs (s : Setting) (own : Key) : Type 0 where
   some : 1 ≤ s.group.t
   sign : OwnSignaturesVerify s own
 
-vouched-tells : (s : Setting) (own : PublicKey) (base : List Record) (what : whats.What) (c : Call) → Vouched s own base c → Vouched s own base (tells s what c)
+vouched-tells : (s : Setting) (own : Key) (base : List Record) (what : whats.What) (c : Call) → Vouched s own base c → Vouched s own base (tells s what c)
 vouched-tells s own base what c h = vouched-same s own base c (tells s what c) (grown-tells s what c) (follows-itself s c.node) h.all refl h
 
 grown-again : (s : Setting) (c d : Call) → d.told ≡ c.told → Grown s c d
 grown-again s c d e = record { signed = λ r i. subst (λ xs. In xs r) (ap (filter_map (λ (e : journal.Event). made_by s e.what)) (sym e)) i }
 
-vouched-stops : (s : Setting) (own : PublicKey) (base : List Record) (c : Call) → Vouched s own base c → Vouched s own base (stops s c)
+vouched-stops : (s : Setting) (own : Key) (base : List Record) (c : Call) → Vouched s own base c → Vouched s own base (stops s c)
 vouched-stops s own base c h =
     let c1 : Call = tells s told.Stopped c in
     let h1 : Vouched s own base c1 = vouched-tells s own base told.Stopped c h in
@@ -119,15 +119,15 @@ lived-sends : (s : Setting) (d : Datagram) (c : Call) (to : ℕ) → (sends s d 
 unfolding sends
 lived-sends s d c to = refl
 
-vouched-sends : (s : Setting) (own : PublicKey) (base : List Record) → Signs s own → (d : Datagram) (c : Call) (to : ℕ) → Vouched s own base c → Vouched s own base (sends s d c to)
+vouched-sends : (s : Setting) (own : Key) (base : List Record) → Signs s own → (d : Datagram) (c : Call) (to : ℕ) → Vouched s own base c → Vouched s own base (sends s d c to)
 vouched-sends s own base k d c to h =
     vouched-same s own base c (sends s d c to) (grown-sends s d c to) ((following s c.node).sent d c to (follows-itself s c.node)) ((keeping-all s own k.some k.sign).sent d c to h.all) (lived-sends s d c to) h
 
-vouched-sends_to_all : (s : Setting) (own : PublicKey) (base : List Record) → Signs s own → (addressees : List ℕ) (d : Datagram) (c : Call) → Vouched s own base c → Vouched s own base (sends_to_all s addressees d c)
+vouched-sends_to_all : (s : Setting) (own : Key) (base : List Record) → Signs s own → (addressees : List ℕ) (d : Datagram) (c : Call) → Vouched s own base c → Vouched s own base (sends_to_all s addressees d c)
 vouched-sends_to_all s own base k [] d c h = h
 vouched-sends_to_all s own base k (to ∷ addressees) d c h = vouched-sends_to_all s own base k addressees d (sends s d c to) (vouched-sends s own base k d c to h)
 
-vouched-probes : (s : Setting) (own : PublicKey) (base : List Record) → Signs s own → (p : History) (c : Call) → Vouched s own base c → Vouched s own base (record c { node = record c.node { probes = p } })
+vouched-probes : (s : Setting) (own : Key) (base : List Record) → Signs s own → (p : History) (c : Call) → Vouched s own base c → Vouched s own base (record c { node = record c.node { probes = p } })
 vouched-probes s own base k p c h =
     let d : Call = record c { node = record c.node { probes = p } } in
     vouched-same s own base c d (grown-again s c d refl) ((following s c.node).probed p c (follows-itself s c.node)) ((keeping-all s own k.some k.sign).probed p c h.all) refl h
@@ -136,7 +136,7 @@ lived-lives : (s : Setting) (e : Event) (c : Call) → (lives s e c).node.lived 
 unfolding lives
 lived-lives s e c = refl
 
-vouched-passes : (s : Setting) (own : PublicKey) (base : List Record) → Signs s own → (c : Call) → Vouched s own base c → Vouched s own base (lives s Passes c)
+vouched-passes : (s : Setting) (own : Key) (base : List Record) → Signs s own → (c : Call) → Vouched s own base c → Vouched s own base (lives s Passes c)
 vouched-passes s own base k c h =
     vouched-event s own base Passes c (lives s Passes c) (grown-lives s Passes c) ((following s c.node).passed c (follows-itself s c.node)) ((keeping-all s own k.some k.sign).passed c h.all) (lived-lives s Passes c) tt h
 
@@ -146,7 +146,7 @@ lived-takes : (s : Setting) (r : Record) (c : Call) → (takes s r c).node.lived
 unfolding takes lives
 lived-takes s r c = refl
 
-witness-of : (s : Setting) (base : List Record) (c : Call) (author later : Option PublicKey) (r : Record) (b : Body) → IsIn base s c r → r.body ≡ b → Verifies s author r → ((key : PublicKey) → author ≡ Some key → later ≡ Some key) → Witness s base c later b
+witness-of : (s : Setting) (base : List Record) (c : Call) (author later : Option Key) (r : Record) (b : Body) → IsIn base s c r → r.body ≡ b → Verifies s author r → ((key : Key) → author ≡ Some key → later ≡ Some key) → Witness s base c later b
 witness-of s base c author later r b here is v stays = record { rec = r; here = here; says = is; key = v.key; author_is = stays v.key v.author_is; verifies = v.verifies }
 
 accepted-witnessed : (s : Setting) (base : List Record) (n : Node) (d : Call) (r : Record) (b : Body) → r.body ≡ b → refusal s n r ≡ None → Follows s n d.node → IsIn base s d r → Witnessed s base d (event_of s b)
@@ -162,7 +162,7 @@ accepted-witnessed s base n d r (Accusation a) is fine f here =
     let fine2 : refusal_of s n r (Accusation a) ≡ None = sym (ap (refusal_of s n r) is) ∙ fine in
     witness-of s base d (public_key_of n a.accuser) (public_key_of d.node a.accuser) r (Accusation a) here is (verified s (public_key_of n a.accuser) r (option_or-none (accusation_fault s.group.t (state_of s n) a) _ fine2).1) (λ key e. key-follows s n d.node a.accuser key f e)
 
-vouched-takes : (s : Setting) (own : PublicKey) (base : List Record) → Signs s own → (r : Record) (c : Call) → refusal s c.node r ≡ None → IsIn base s c r → Vouched s own base c → Vouched s own base (takes s r c)
+vouched-takes : (s : Setting) (own : Key) (base : List Record) → Signs s own → (r : Record) (c : Call) → refusal s c.node r ≡ None → IsIn base s c r → Vouched s own base c → Vouched s own base (takes s r c)
 vouched-takes s own base k r c fine here h =
     let d : Call = takes s r c in
     let g : Grown s c d = grown-takes s r c in
@@ -194,7 +194,7 @@ own-in : (s : Setting) (base : List Record) (b : Body) (c : Call) → IsIn base 
 unfolding signs
 own-in s base b c = inr ((grown-takes s (own_record s c.node b) (spends s b c)).signed (own_record s c.node b) (own-signed s b c))
 
-own-witnessed : (s : Setting) (own : PublicKey) (base : List Record) → Signs s own → (b : Body) (c d : Call) → IsOwnBody s b → c.node.stored.next < s.indexes → public_key_of c.node s.me ≡ Some own → Follows s c.node d.node → IsIn base s d (own_record s c.node b)
+own-witnessed : (s : Setting) (own : Key) (base : List Record) → Signs s own → (b : Body) (c d : Call) → IsOwnBody s b → c.node.stored.next < s.indexes → public_key_of c.node s.me ≡ Some own → Follows s c.node d.node → IsIn base s d (own_record s c.node b)
     → Witnessed s base d (event_of s b)
 unfolding IsOwnBody
 own-witnessed s own base k (Certificate x) c d mine left key f here = absurd mine
@@ -210,13 +210,13 @@ not_own_certificate s (Note note) x mine is = cc
 not_own_certificate s (Accusation a) x mine is = cc
 
 -- a signature with an index that is left; that the node stays correct is known otherwise
-vouched-signs : (s : Setting) (own : PublicKey) (base : List Record) → Signs s own → (b : Body) (c : Call) → IsOwnBody s b → is_used_up s c.node ≡ false → KeepsAll s own (signs s b c).node → Vouched s own base c → Vouched s own base (signs s b c)
+vouched-signs : (s : Setting) (own : Key) (base : List Record) → Signs s own → (b : Body) (c : Call) → IsOwnBody s b → is_used_up s c.node ≡ false → KeepsAll s own (signs s b c).node → Vouched s own base c → Vouched s own base (signs s b c)
 vouched-signs s own base k b c mine left all h =
     let d : Call = signs s b c in
     let f : Follows s c.node d.node = follows-signs s c.node b c (λ x is. not_own_certificate s b x mine is) (follows-itself s c.node) in
     vouched-event s own base (event_of s b) c d (grown-signs s b c) f all (lived-signs s b c) (own-witnessed s own base k b c d mine (index-left s c.node left h.all.within) h.all.own_key f (own-in s base b c)) h
 
-vouched-wants : (s : Setting) (own : PublicKey) (base : List Record) → Signs s own → (body : Body) (addressees : State → List ℕ) (c : Call) → (is_used_up s c.node ≡ false → Vouched s own base (signs s body c)) → Vouched s own base c
+vouched-wants : (s : Setting) (own : Key) (base : List Record) → Signs s own → (body : Body) (addressees : State → List ℕ) (c : Call) → (is_used_up s c.node ≡ false → Vouched s own base (signs s body c)) → Vouched s own base c
     → Vouched s own base (wants true s body addressees c)
 unfolding wants signs_and_sends
 vouched-wants s own base k body addressees c signed h =
@@ -233,7 +233,7 @@ own-answer : (s : Setting) (stored : Stored) (a : AccBody) → IsOwnBody s (answ
 unfolding IsOwnBody
 own-answer s stored a = refl
 
-vouched-accepted : (s : Setting) (own : PublicKey) (base : List Record) → Signs s own → (r : Record) (b : Body) (c : Call) → r.body ≡ b → refusal s c.node r ≡ None → IsIn base s c r → Vouched s own base c → Vouched s own base (answers true s b (takes s r c))
+vouched-accepted : (s : Setting) (own : Key) (base : List Record) → Signs s own → (r : Record) (b : Body) (c : Call) → r.body ≡ b → refusal s c.node r ≡ None → IsIn base s c r → Vouched s own base c → Vouched s own base (answers true s b (takes s r c))
 vouched-accepted s own base k r (Certificate x) c is fine here h = vouched-takes s own base k r c fine here h
 vouched-accepted s own base k r (Note x) c is fine here h = vouched-takes s own base k r c fine here h
 vouched-accepted s own base k r (Accusation a) c is fine here h =
@@ -244,15 +244,15 @@ vouched-accepted s own base k r (Accusation a) c is fine here h =
     (λ me. vouched-wants s own base k b (neighbours s) c1 (λ left. vouched-signs s own base k b c1 (own-answer s c1.node.stored a) left ((keeping-all s own k.some k.sign).answered r a c fine is me left h.all) h1) h1)
     (λ other. h1)
 
-vouched-judged : (s : Setting) (own : PublicKey) (base : List Record) → Signs s own → (f : Option Fault) (r : Record) (c : Call) → refusal s c.node r ≡ f → (f ≡ None → In base r) → Vouched s own base c → Vouched s own base (judged true s f r c)
+vouched-judged : (s : Setting) (own : Key) (base : List Record) → Signs s own → (f : Option Fault) (r : Record) (c : Call) → refusal s c.node r ≡ f → (f ≡ None → In base r) → Vouched s own base c → Vouched s own base (judged true s f r c)
 vouched-judged s own base k (Some f) r c e here h = vouched-tells s own base (told.Took r.body (Some f)) c h
 vouched-judged s own base k None r c e here h = vouched-accepted s own base k r r.body (tells s (told.Took r.body None) c) refl e (inl (here refl)) (vouched-tells s own base (told.Took r.body None) c h)
 
-vouched-handles : (s : Setting) (own : PublicKey) (base : List Record) → Signs s own → (c : Call) (r : Record) → (refusal s c.node r ≡ None → In base r) → Vouched s own base c → Vouched s own base (handles true s c r)
+vouched-handles : (s : Setting) (own : Key) (base : List Record) → Signs s own → (c : Call) (r : Record) → (refusal s c.node r ≡ None → In base r) → Vouched s own base c → Vouched s own base (handles true s c r)
 unfolding handles
 vouched-handles s own base k c r here h = vouched-judged s own base k (refusal s c.node r) r c refl here h
 
-vouched-handles_all : (s : Setting) (own : PublicKey) (base : List Record) → Signs s own → (records : List Record) (c : Call) → ((r : Record) → In (accepted_of s c.node records) r → In base r) → Vouched s own base c → Vouched s own base (handles_all s records c)
+vouched-handles_all : (s : Setting) (own : Key) (base : List Record) → Signs s own → (records : List Record) (c : Call) → ((r : Record) → In (accepted_of s c.node records) r → In base r) → Vouched s own base c → Vouched s own base (handles_all s records c)
 vouched-handles_all s own base k [] c all h = h
 vouched-handles_all s own base k (r ∷ records) c all h =
     let later : (handles true s c r).node ≡ when_handled s c.node r = node-handles true s c r in
@@ -262,40 +262,40 @@ vouched-handles_all s own base k (r ∷ records) c all h =
 
 -- ---- probes and summaries
 
-vouched-gives : (s : Setting) (own : PublicKey) (base : List Record) → Signs s own → (to : ℕ) (records : List Record) (c : Call) → Vouched s own base c → Vouched s own base (gives s to records c)
+vouched-gives : (s : Setting) (own : Key) (base : List Record) → Signs s own → (to : ℕ) (records : List Record) (c : Call) → Vouched s own base c → Vouched s own base (gives s to records c)
 vouched-gives s own base k to [] c h = h
 vouched-gives s own base k to (r ∷ records) c h = vouched-sends s own base k (kinds.Records s.me (r ∷ records)) c to h
 
-vouched-replies : (s : Setting) (own : PublicKey) (base : List Record) → Signs s own → (to : ℕ) (flag : Bool) (number : ℕ) (c : Call) → Vouched s own base c → Vouched s own base (replies s to flag number c)
+vouched-replies : (s : Setting) (own : Key) (base : List Record) → Signs s own → (to : ℕ) (flag : Bool) (number : ℕ) (c : Call) → Vouched s own base c → Vouched s own base (replies s to flag number c)
 vouched-replies s own base k to true number c h = h
 vouched-replies s own base k to false number c h = vouched-sends s own base k (kinds.Summary s.me true (page c.node number)) c to h
 
-vouched-pinged : (s : Setting) (own : PublicKey) (base : List Record) → Signs s own → (from nonce : ℕ) (c : Call) → Vouched s own base c → Vouched s own base (pinged s from nonce c)
+vouched-pinged : (s : Setting) (own : Key) (base : List Record) → Signs s own → (from nonce : ℕ) (c : Call) → Vouched s own base c → Vouched s own base (pinged s from nonce c)
 vouched-pinged s own base k from nonce c h =
     let c1 : Call = tells s (told.Ping from nonce) c in
     let h1 : Vouched s own base c1 = vouched-tells s own base (told.Ping from nonce) c h in
     cond_both (is_other s c.node from) (sends s (kinds.Pong s.me nonce) c1 from) c1 (Vouched s own base) (λ yes. vouched-sends s own base k (kinds.Pong s.me nonce) c1 from h1) (λ no. h1)
 
-vouched-ponged : (s : Setting) (own : PublicKey) (base : List Record) → Signs s own → (from nonce : ℕ) (c : Call) → Vouched s own base c → Vouched s own base (ponged_by s from nonce c)
+vouched-ponged : (s : Setting) (own : Key) (base : List Record) → Signs s own → (from nonce : ℕ) (c : Call) → Vouched s own base c → Vouched s own base (ponged_by s from nonce c)
 vouched-ponged s own base k from nonce c h =
     let what : whats.What = told.Pong from nonce (counts c.node.probes from nonce) in
     vouched-probes s own base k (ponged c.node.probes from nonce) (tells s what c) (vouched-tells s own base what c h)
 
-vouched-exchanges : (s : Setting) (own : PublicKey) (base : List Record) → Signs s own → (from : ℕ) (flag : Bool) (theirs : Summary) (c : Call) → Vouched s own base c → Vouched s own base (exchanges s from flag theirs c)
+vouched-exchanges : (s : Setting) (own : Key) (base : List Record) → Signs s own → (from : ℕ) (flag : Bool) (theirs : Summary) (c : Call) → Vouched s own base c → Vouched s own base (exchanges s from flag theirs c)
 vouched-exchanges s own base k from flag theirs c h =
     let c1 : Call = tells s (told.Summary from theirs.page flag) c in
     let h1 : Vouched s own base c1 = vouched-tells s own base (told.Summary from theirs.page flag) c h in
     let c2 : Call = gives s from (lacking c.node theirs) c1 in
     cond_both (is_other s c.node from) (replies s from flag theirs.page c2) c1 (Vouched s own base) (λ yes. vouched-replies s own base k from flag theirs.page c2 (vouched-gives s own base k from (lacking c.node theirs) c1 h1)) (λ no. h1)
 
-vouched-hears : (s : Setting) (own : PublicKey) (base : List Record) → Signs s own → (d : Result Datagram ℕ) (c : Call) → ((r : Record) → In (accepted_of s c.node (records_in d)) r → In base r) → Vouched s own base c → Vouched s own base (hears s d c)
+vouched-hears : (s : Setting) (own : Key) (base : List Record) → Signs s own → (d : Result Datagram ℕ) (c : Call) → ((r : Record) → In (accepted_of s c.node (records_in d)) r → In base r) → Vouched s own base c → Vouched s own base (hears s d c)
 vouched-hears s own base k (Err place) c all h = vouched-tells s own base (told.BadForm place) c h
 vouched-hears s own base k (Ok (kinds.Ping from nonce)) c all h = vouched-pinged s own base k from nonce c h
 vouched-hears s own base k (Ok (kinds.Pong from nonce)) c all h = vouched-ponged s own base k from nonce c h
 vouched-hears s own base k (Ok (kinds.Summary from flag theirs)) c all h = vouched-exchanges s own base k from flag theirs c h
 vouched-hears s own base k (Ok (kinds.Records from records)) c all h = vouched-handles_all s own base k records c all h
 
-vouched-delivered : (s : Setting) (own : PublicKey) (base : List Record) → Signs s own → (n : Node) (bytes : List ℕ) → ((r : Record) → In (accepted_of s n (records_in (read_of bytes))) r → In base r) → Vouched s own base (begun n) → Vouched s own base (delivered s n bytes)
+vouched-delivered : (s : Setting) (own : Key) (base : List Record) → Signs s own → (n : Node) (bytes : List ℕ) → ((r : Record) → In (accepted_of s n (records_in (read_of bytes))) r → In base r) → Vouched s own base (begun n) → Vouched s own base (delivered s n bytes)
 unfolding delivered
 vouched-delivered s own base k n bytes all h = vouched-hears s own base k (read_of bytes) (begun n) all h
 
@@ -305,7 +305,7 @@ own-accuser : (s : Setting) (st : State) (m ring : ℕ) → IsOwnBody s (accusat
 unfolding IsOwnBody
 own-accuser s st m ring = refl
 
-vouched-accuses : (s : Setting) (own : PublicKey) (base : List Record) → Signs s own → (c : Call) (m : ℕ) → Vouched s own base c → Vouched s own base (accuses true s c m)
+vouched-accuses : (s : Setting) (own : Key) (base : List Record) → Signs s own → (c : Call) (m : ℕ) → Vouched s own base c → Vouched s own base (accuses true s c m)
 unfolding accuses
 vouched-accuses s own base k c m h =
     cond_both (has_accused s (state_of s c.node) m) c (wants_accusation true s m (ring_for s (state_of s c.node) m) (tells s (told.Silent m) c)) (Vouched s own base)
@@ -317,32 +317,32 @@ vouched-accuses s own base k c m h =
         let b : Body = accusation_on s (state_of s x.node) m ring in
         vouched-wants s own base k b (neighbours_and s m) x (λ left. vouched-signs s own base k b x (own-accuser s (state_of s x.node) m ring) left ((keeping-all s own k.some k.sign).accused (own_accusation s (state_of s x.node) m ring) x refl left v.all) v) v
 
-vouched-accuses_all : (s : Setting) (own : PublicKey) (base : List Record) → Signs s own → (silent : List ℕ) (c : Call) → Vouched s own base c → Vouched s own base (accuses_all s silent c)
+vouched-accuses_all : (s : Setting) (own : Key) (base : List Record) → Signs s own → (silent : List ℕ) (c : Call) → Vouched s own base c → Vouched s own base (accuses_all s silent c)
 vouched-accuses_all s own base k [] c h = h
 vouched-accuses_all s own base k (m ∷ silent) c h = vouched-accuses_all s own base k silent (accuses true s c m) (vouched-accuses s own base k c m h)
 
-vouched-pings_all : (s : Setting) (own : PublicKey) (base : List Record) → Signs s own → (pings : List (ℕ × ℕ)) (c : Call) → Vouched s own base c → Vouched s own base (pings_all s pings c)
+vouched-pings_all : (s : Setting) (own : Key) (base : List Record) → Signs s own → (pings : List (ℕ × ℕ)) (c : Call) → Vouched s own base c → Vouched s own base (pings_all s pings c)
 vouched-pings_all s own base k [] c h = h
 vouched-pings_all s own base k (p ∷ pings) c h = vouched-pings_all s own base k pings (sends s (kinds.Ping s.me p.1) c p.0) (vouched-sends s own base k (kinds.Ping s.me p.1) c p.0 h)
 
-vouched-summary : (s : Setting) (own : PublicKey) (base : List Record) → Signs s own → (round : ℕ) (to : Option ℕ) (c : Call) → Vouched s own base c → Vouched s own base (summary_to s round to c)
+vouched-summary : (s : Setting) (own : Key) (base : List Record) → Signs s own → (round : ℕ) (to : Option ℕ) (c : Call) → Vouched s own base c → Vouched s own base (summary_to s round to c)
 vouched-summary s own base k round None c h = h
 vouched-summary s own base k round (Some to) c h = vouched-sends s own base k (kinds.Summary s.me false (page c.node (page_number s c.node round))) c to h
 
-vouched-probed : (s : Setting) (own : PublicKey) (base : List Record) → Signs s own → (n : Node) → Vouched s own base (begun n) → Vouched s own base (probed_at s n)
+vouched-probed : (s : Setting) (own : Key) (base : List Record) → Signs s own → (n : Node) → Vouched s own base (begun n) → Vouched s own base (probed_at s n)
 unfolding probed_at passed
 vouched-probed s own base k n h =
     let c : Call = lives s Passes (begun n) in
     vouched-probes s own base k (probes_after s c.node (state_of s c.node)).probes c (vouched-passes s own base k (begun n) h)
 
-vouched-due : (s : Setting) (own : PublicKey) (base : List Record) → Signs s own → (accused : List ℕ) (pings : List (ℕ × ℕ)) (round : ℕ) (c : Call) → Vouched s own base c → Vouched s own base (due_tick s accused pings round c)
+vouched-due : (s : Setting) (own : Key) (base : List Record) → Signs s own → (accused : List ℕ) (pings : List (ℕ × ℕ)) (round : ℕ) (c : Call) → Vouched s own base c → Vouched s own base (due_tick s accused pings round c)
 unfolding due_tick
 vouched-due s own base k accused pings round c h =
     let c1 : Call = accuses_all s accused c in
     let c2 : Call = pings_all s pings c1 in
     vouched-summary s own base k round (partner s c2.node round) c2 (vouched-pings_all s own base k pings c1 (vouched-accuses_all s own base k accused c h))
 
-vouched-ticked : (s : Setting) (own : PublicKey) (base : List Record) → Signs s own → (n : Node) → Vouched s own base (begun n) → Vouched s own base (ticked s n)
+vouched-ticked : (s : Setting) (own : Key) (base : List Record) → Signs s own → (n : Node) → Vouched s own base (begun n) → Vouched s own base (ticked s n)
 unfolding ticked
 vouched-ticked s own base k n h =
     let p : Node = (passed s n).node in
@@ -358,7 +358,7 @@ own-leaving : (s : Setting) (stored : Stored) → IsOwnBody s (leaving s stored)
 unfolding IsOwnBody
 own-leaving s stored = refl
 
-vouched-left : (s : Setting) (own : PublicKey) (base : List Record) → Signs s own → (n : Node) → Vouched s own base (begun n) → Vouched s own base (left s n)
+vouched-left : (s : Setting) (own : Key) (base : List Record) → Signs s own → (n : Node) → Vouched s own base (begun n) → Vouched s own base (left s n)
 unfolding left leaves
 vouched-left s own base k n h =
     let c : Call = begun n in
@@ -368,11 +368,11 @@ vouched-left s own base k n h =
 -- ---- lives
 
 -- A correct node, of whose life each event comes of one of these records.
-record Comes (s : Setting) (own : PublicKey) (known : List Record) (n : Node) : Type 0 where
+record Comes (s : Setting) (own : Key) (known : List Record) (n : Node) : Type 0 where
   all : KeepsAll s own n
   events : AllByRecursion (IsVouched s known n) n.lived
 
-among : (s : Setting) (base : List Record) (c : Call) (author : Option PublicKey) (b : Body) → Witness s base c author b → IsVouchedAmong s (base ++ signed_in s c) author b
+among : (s : Setting) (base : List Record) (c : Call) (author : Option Key) (b : Body) → Witness s base c author b → IsVouchedAmong s (base ++ signed_in s c) author b
 among s base c author b w =
     record {
       vouched = record { witness = w.rec; key = w.key; says = w.says; author_is = w.author_is; verifies = w.verifies };
@@ -389,14 +389,14 @@ all-vouched : (s : Setting) (base : List Record) (c : Call) (events : List Event
 all-vouched s base c [] all = tt
 all-vouched s base c (e ∷ events) all = (witnessed-vouched s base c e all.0, all-vouched s base c events all.1)
 
-comes-call : (s : Setting) (own : PublicKey) (base : List Record) (c : Call) → Vouched s own base c → Comes s own (base ++ signed_in s c) c.node
+comes-call : (s : Setting) (own : Key) (base : List Record) (c : Call) → Vouched s own base c → Comes s own (base ++ signed_in s c) c.node
 comes-call s own base c h = record { all = h.all; events = all-vouched s base c c.node.lived h.events }
 
 -- as a call begins
 witnessed-begun : (s : Setting) (known base : List Record) (n : Node) → ((r : Record) → In known r → In base r) → (e : Event) → IsVouched s known n e → Witnessed s base (begun n) e
 witnessed-begun s known base n within (Joins number places) v = (v.0, (v.1.0, from (Some s.authority) (Certificate v.0) v.1.1))
   where
-    from : (author : Option PublicKey) (b : Body) → IsVouchedAmong s known author b → Witness s base (begun n) author b
+    from : (author : Option Key) (b : Body) → IsVouchedAmong s known author b → Witness s base (begun n) author b
     from author b w =
         let f = w.vouched in
         record { rec = f.witness; here = inl (within f.witness (In-from_Contains known f.witness w.come_by)); says = f.says; key = f.key; author_is = f.author_is; verifies = f.verifies }
@@ -412,17 +412,17 @@ all-begun : (s : Setting) (known base : List Record) (n : Node) → ((r : Record
 all-begun s known base n within [] all = tt
 all-begun s known base n within (e ∷ events) all = (witnessed-begun s known base n within e all.0, all-begun s known base n within events all.1)
 
-vouched-begun : (s : Setting) (own : PublicKey) (known base : List Record) (n : Node) → ((r : Record) → In known r → In base r) → Comes s own known n → Vouched s own base (begun n)
+vouched-begun : (s : Setting) (own : Key) (known base : List Record) (n : Node) → ((r : Record) → In known r → In base r) → Comes s own known n → Vouched s own base (begun n)
 vouched-begun s own known base n within h = record { all = h.all; events = all-begun s known base n within n.lived h.events }
 
-vouched-call : (s : Setting) (own : PublicKey) (known : List Record) → Signs s own → (n : Node) (i : Input) → Comes s own known n → Vouched s own (known ++ accepted_in s n i) (call_of s n i)
+vouched-call : (s : Setting) (own : Key) (known : List Record) → Signs s own → (n : Node) (i : Input) → Comes s own known n → Vouched s own (known ++ accepted_in s n i) (call_of s n i)
 vouched-call s own known k n (Delivers bytes) h =
     let accepted : List Record = accepted_of s n (records_in (read_of bytes)) in
     vouched-delivered s own (known ++ accepted) k n bytes (λ r i. In-append_right known accepted r i) (vouched-begun s own known (known ++ accepted) n (λ r i. In-append_left known accepted r i) h)
 vouched-call s own known k n Ticks h = vouched-ticked s own (known ++ []) k n (vouched-begun s own known (known ++ []) n (λ r i. In-append_left known [] r i) h)
 vouched-call s own known k n Leaves h = vouched-left s own (known ++ []) k n (vouched-begun s own known (known ++ []) n (λ r i. In-append_left known [] r i) h)
 
-comes-calls : (s : Setting) (own : PublicKey) (known : List Record) → Signs s own → (n : Node) (inputs : List Input) → Comes s own known n → Comes s own (gathered s n known inputs) (after_calls s n inputs)
+comes-calls : (s : Setting) (own : Key) (known : List Record) → Signs s own → (n : Node) (inputs : List Input) → Comes s own known n → Comes s own (gathered s n known inputs) (after_calls s n inputs)
 comes-calls s own known k n [] h = h
 comes-calls s own known k n (i ∷ inputs) h =
     let c : Call = call_of s n i in
@@ -438,7 +438,7 @@ JoinOf s base (Notes note) = ⊥
 JoinOf s base (Accuses a) = ⊥
 JoinOf s base Passes = ⊥
 
-kit-joins : (s : Setting) (own : PublicKey) (base records : List Record) (c : Call) → ((r : Record) → In records r → In base r) → AllByRecursion Certifies records → AllByRecursion (IsCertifiedBy s own) records
+kit-joins : (s : Setting) (own : Key) (base records : List Record) (c : Call) → ((r : Record) → In records r → In base r) → AllByRecursion Certifies records → AllByRecursion (IsCertifiedBy s own) records
     → AllByRecursion (JoinOf s base) c.node.lived → AllByRecursion (JoinOf s base) (takes_all s records c).node.lived
 kit-joins s own base [] c within all good h = h
 kit-joins s own base (r ∷ records) c within all good h =
@@ -460,7 +460,7 @@ joins-witnessed : (s : Setting) (base : List Record) (d : Call) (events : List E
 joins-witnessed s base d [] all = tt
 joins-witnessed s base d (e ∷ events) all = (join-witnessed s base d e all.0, joins-witnessed s base d events all.1)
 
-comes-started : (s : Setting) (own : PublicKey) (seed : List ℕ) (certificates : List Record) (stored : Stored) → Signs s own → AllByRecursion Certifies certificates → list_any (λ r. is_certificate_for s.me r.body) certificates ≡ true
+comes-started : (s : Setting) (own : Key) (seed : List ℕ) (certificates : List Record) (stored : Stored) → Signs s own → AllByRecursion Certifies certificates → list_any (λ r. is_certificate_for s.me r.body) certificates ≡ true
     → AllByRecursion (IsCertifiedBy s own) certificates → stored.next < s.indexes → Comes s own (certificates ++ signed_in s (started s seed certificates stored)) (started s seed certificates stored).node
 unfolding started IsOwnBody
 comes-started s own seed certificates stored k all mine good left =
@@ -480,7 +480,7 @@ comes-started s own seed certificates stored k all mine good left =
           (all-push (Witnessed s certificates d) c.node.lived (event_of s b) (joins-witnessed s certificates d c.node.lived joins) (own-witnessed s own certificates k b c d refl index key f (own-in s certificates b c)));
     }
 
-pub vouched-life : (s : Setting) (own : PublicKey) (seed : List ℕ) (certificates : List Record) (stored : Stored) (inputs : List Input) → 1 ≤ s.group.t → AllByRecursion Certifies certificates
+pub vouched-life : (s : Setting) (own : Key) (seed : List ℕ) (certificates : List Record) (stored : Stored) (inputs : List Input) → 1 ≤ s.group.t → AllByRecursion Certifies certificates
     → list_any (λ r. is_certificate_for s.me r.body) certificates ≡ true → AllByRecursion (IsCertifiedBy s own) certificates → OwnSignaturesVerify s own → stored.next < s.indexes
     → AllByRecursion (IsVouched s (gathered s (started s seed certificates stored).node (certificates ++ signed_in s (started s seed certificates stored)) inputs) (after_calls s (started s seed certificates stored).node inputs))
     (after_calls s (started s seed certificates stored).node inputs).lived

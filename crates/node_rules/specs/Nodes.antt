@@ -11,7 +11,7 @@ use Rattle.ff_ids.specs.Masks.{ring_count}
 use Rattle.ff_ids.specs.Views.{State, all_numbers, successor}
 use Rattle.ff_ids.specs.Steps.{Event, Joins, Notes, Accuses, Report}
 use Rattle.ff_ids.specs.Lives.{opening, after}
-use Rattle.lms_tree.specs.declared.key.PublicKey.{PublicKey}
+use Rattle.records.specs.declared.keys.Key.{Key}
 use Rattle.records.specs.declared.CertBody.{CertBody}
 use Rattle.records.specs.declared.Body.{Body}
 use Rattle.records.specs.declared.Body.TheVariants.{Certificate, Note, Accusation}
@@ -26,10 +26,10 @@ use Rattle.detector.specs.Silence.{History}
 pub record Setting : Type 0 where
   pub group : Group
   pub me : ℕ
-  pub authority : PublicKey
+  pub authority : Key
   pub indexes : ℕ
   pub places : ℕ → List (List ℕ)
-  pub verifies : PublicKey → Record → Bool
+  pub verifies : Key → Record → Bool
   pub signature : ℕ → Body → List ℕ
 
 -- The records that are held: under each key the one that was accepted or signed last.
@@ -86,7 +86,7 @@ certificate_of n m = option_and_then (λ r. certificate_in r.body) (n.held (keys
 abbrev pub is_certified : Node → ℕ → Bool
 is_certified n m = is_some (certificate_of n m)
 
-abbrev pub public_key_of : Node → ℕ → Option PublicKey
+abbrev pub public_key_of : Node → ℕ → Option Key
 public_key_of n m = option_map (λ c. c.key) (certificate_of n m)
 
 -- Those with a certificate, in order of number.

@@ -12,7 +12,7 @@ use Rattle.ff_ids.specs.Notes.{note_cmp, newest}
 use Rattle.ff_ids.specs.Summaries.{page_of_member}
 use Rattle.ff_ids.specs.Views.{is_member}
 use Rattle.ff_ids.specs.Faults.{is_kept}
-use Rattle.lms_tree.specs.declared.key.PublicKey.{PublicKey}
+use Rattle.records.specs.declared.keys.Key.{Key}
 use Rattle.records.specs.declared.CertBody.{CertBody}
 use Rattle.records.specs.declared.Body.TheVariants.{Accusation}
 use Rattle.records.specs.declared.Record.{Record}
@@ -35,7 +35,7 @@ use Rattle.node_rules.specs.Vouching.{OwnSignaturesVerify, IsCertifiedBy}
 -- certificates of its kit, and what its store kept.
 pub record Life : Type 0 where
   pub setting : Setting
-  pub own : PublicKey
+  pub own : Key
   pub seed : List ℕ
   pub certificates : List Record
   pub stored : Stored
@@ -61,7 +61,7 @@ pub record IsCorrect (l : Life) : Type 0 where
 pub record IsWithinRanges (l : Life) : Type 0 where
   pub me : l.setting.me < MEMBERS
   pub indexes : l.setting.indexes < 2 ^ 64
-  pub lengths : (key : PublicKey) (r : Record) → l.setting.verifies key r ≡ true → HasLength r.signature
+  pub lengths : (key : Key) (r : Record) → l.setting.verifies key r ≡ true → HasLength r.signature
   pub certificates : AllByRecursion IsSignedRecord l.certificates
   pub epoch : l.stored.epoch ≤ l.stored.next
 
@@ -75,7 +75,7 @@ IsOfBytes Leaves = Unit {0}
 
 -- The record verifies under the key in the member's certificate.
 pub record IsSignedBy (s : Setting) (n : Node) (m : ℕ) (r : Record) : Type 0 where
-  pub key : PublicKey
+  pub key : Key
   pub author_is : public_key_of n m ≡ Some key
   pub verifies : s.verifies key r ≡ true
 

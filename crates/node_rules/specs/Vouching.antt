@@ -2,7 +2,7 @@
 use Rattle.std.specs.Prelude.{◌≡◌, ℕ, ◌<◌, ◌≤◌, true, List, Option, Some, Contains}
 use Rattle.std.specs.List.{AllByRecursion}
 use Rattle.ff_ids.specs.Steps.{Event, Joins, Notes, Accuses, Ticks}
-use Rattle.lms_tree.specs.declared.key.PublicKey.{PublicKey}
+use Rattle.records.specs.declared.keys.Key.{Key}
 use Rattle.records.specs.declared.CertBody.{CertBody}
 use Rattle.records.specs.declared.Body.{Body}
 use Rattle.records.specs.declared.Body.TheVariants.{Certificate, Note, Accusation}
@@ -17,15 +17,15 @@ use Rattle.node_rules.specs.Lives.{HasRings, IsKit, Input, life_of}
 use Rattle.node_rules.specs.Known.{known_in, records_of}
 
 -- There is a record with this body, which verifies under the author's key.
-pub record IsVouchedFor (s : Setting) (author : Option PublicKey) (body : Body) : Type 0 where
+pub record IsVouchedFor (s : Setting) (author : Option Key) (body : Body) : Type 0 where
   pub witness : Record
-  pub key : PublicKey
+  pub key : Key
   pub says : witness.body ≡ body
   pub author_is : author ≡ Some key
   pub verifies : s.verifies key witness ≡ true
 
 -- That record is one of these.
-pub record IsVouchedAmong (s : Setting) (known : List Record) (author : Option PublicKey) (body : Body) : Type 0 where
+pub record IsVouchedAmong (s : Setting) (known : List Record) (author : Option Key) (body : Body) : Type 0 where
   pub vouched : IsVouchedFor s author body
   pub come_by : Contains known vouched.witness
 
@@ -38,11 +38,11 @@ IsVouched s known n (Accuses a) = IsVouchedAmong s known (public_key_of n a.accu
 IsVouched s known n Ticks = Unit {0}
 
 -- The own key, whatever is signed with it, at each index that it has.
-abbrev pub OwnSignaturesVerify : Setting → PublicKey → Type 0
+abbrev pub OwnSignaturesVerify : Setting → Key → Type 0
 OwnSignaturesVerify s own = (index : ℕ) (body : Body) → index < s.indexes → s.verifies own (record { body = body; signature = s.signature index body }) ≡ true
 
 -- The kit's certificates verify under the authority's key, and the node's own has this key.
-abbrev pub IsCertifiedBy : Setting → PublicKey → Record → Type 0
+abbrev pub IsCertifiedBy : Setting → Key → Record → Type 0
 IsCertifiedBy s own r = (s.verifies s.authority r ≡ true) × ((c : CertBody) → r.body ≡ Certificate c → c.member ≡ s.me → c.key ≡ own)
 
 -- A life starts with an index left, and spends none that the key hasn't.
@@ -52,7 +52,7 @@ NoIndexBeyondTheKey = (s : Setting) (seed : List ℕ) (certificates : List Recor
 
 -- Each event of each life is vouched for by a record that the life has come by, where it starts with an index left.
 abbrev pub LivesAreVouchedFor : Type 0
-LivesAreVouchedFor = (s : Setting) (own : PublicKey) (seed : List ℕ) (certificates : List Record) (stored : Stored) (inputs : List Input)
+LivesAreVouchedFor = (s : Setting) (own : Key) (seed : List ℕ) (certificates : List Record) (stored : Stored) (inputs : List Input)
     → HasRings s → IsKit s certificates → AllByRecursion (IsCertifiedBy s own) certificates → OwnSignaturesVerify s own → stored.next < s.indexes
     → AllByRecursion (IsVouched s (known_in s seed certificates stored inputs) (life_of s seed certificates stored inputs)) (life_of s seed certificates stored inputs).lived
 
@@ -60,14 +60,14 @@ LivesAreVouchedFor = (s : Setting) (own : PublicKey) (seed : List ℕ) (certific
 
 -- Under this key, as the node holds it, a record with the body is to verify: the authority's for a certificate, its
 -- member's for a note, its accuser's for an accusation.
-abbrev pub author_key : Setting → Node → Body → Option PublicKey
+abbrev pub author_key : Setting → Node → Body → Option Key
 author_key s n (Certificate c) = Some s.authority
 author_key s n (Note note) = public_key_of n note.member
 author_key s n (Accusation a) = public_key_of n a.accuser
 
 -- The record verifies under that key.
 pub record IsAuthentic (s : Setting) (n : Node) (r : Record) : Type 0 where
-  pub key : PublicKey
+  pub key : Key
   pub author_is : author_key s n r.body ≡ Some key
   pub verifies : s.verifies key r ≡ true
 
@@ -83,7 +83,7 @@ SendsAuthentic s c = AllByRecursion (λ d. IsOfAuthentic s c.node d.1) c.sent
 
 -- In every life that starts with an index left, whichever put fails.
 abbrev pub SentRecordsVerify : Type 0
-SentRecordsVerify = (s : Setting) (own : PublicKey) (seed : List ℕ) (certificates : List Record) (stored : Stored)
+SentRecordsVerify = (s : Setting) (own : Key) (seed : List ℕ) (certificates : List Record) (stored : Stored)
     (inputs : List Input) (i : Input) (fails_at : Option ℕ)
     → HasRings s → IsKit s certificates → AllByRecursion (IsCertifiedBy s own) certificates → OwnSignaturesVerify s own
     → stored.next < s.indexes

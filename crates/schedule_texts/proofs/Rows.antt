@@ -6,6 +6,7 @@ use Rattle.ff_ids.specs.declared.Group.{Group}
 use Rattle.lms_ots.specs.declared.kind.OtsKind.TheVariants.{W1, W2, W4, W8}
 use Rattle.lms_tree.specs.declared.kind.TreeKind.TheVariants.{H5, H10, H15}
 use Rattle.lms_tree.specs.Lms.{key_in}
+use Rattle.records.specs.declared.keys.Key.TheVariants as keys
 use Rattle.line_text.specs.declared.bad_word.BadWord.{BadWord}
 use Rattle.line_text.specs.declared.bad_word.BadWord.TheVariants as bad
 use Rattle.line_text.specs.Frame.{judge as judge_line}
@@ -131,7 +132,7 @@ one_named = roster.Body (false ∷ true ∷ false ∷ [])
 abbrev key_digits : List ℕ
 key_digits = codes "0000000500000003a1a1a1a1a1a1a1a1a1a1a1a1a1a1a1a1b2b2b2b2b2b2b2b2b2b2b2b2b2b2b2b2b2b2b2b2b2b2b2b2b2b2b2b2b2b2b2b2"
 
-certificates : (below one_named (codes "cert 2 1" ++ 32 ∷ key_digits) ≡ Ok (roster_lines.Cert (record { member = 2; port = 1; key = record { tree = H5; ots = W4; id = replicate 16 161; root = replicate 32 178 } })))
+certificates : (below one_named (codes "cert 2 1" ++ 32 ∷ key_digits) ≡ Ok (roster_lines.Cert (record { member = 2; port = 1; key = keys.Lms (record { tree = H5; ots = W4; id = replicate 16 161; root = replicate 32 178 }) })))
     × (below one_named (codes "cert 1 1" ++ 32 ∷ key_digits) ≡ Err bad.Limit)
     × (below one_named (codes "cert 1024 1" ++ 32 ∷ key_digits) ≡ Err bad.Limit)
     × (below one_named (codes "cert 2 0" ++ 32 ∷ key_digits) ≡ Err bad.Limit)
@@ -144,5 +145,5 @@ certificates : (below one_named (codes "cert 2 1" ++ 32 ∷ key_digits) ≡ Ok (
 unfolding judge_line key_in hex_on_literals
 certificates = (refl, refl, refl, refl, refl, refl, refl, refl, refl, refl)
 
-named : (roster_text.after one_named (roster_lines.Cert (record { member = 2; port = 1; key = record { tree = H5; ots = W4; id = []; root = [] } })) ≡ roster.Body (false ∷ true ∷ true ∷ []))
+named : (roster_text.after one_named (roster_lines.Cert (record { member = 2; port = 1; key = keys.Lms (record { tree = H5; ots = W4; id = []; root = [] }) })) ≡ roster.Body (false ∷ true ∷ true ∷ []))
 named = refl

@@ -8,6 +8,7 @@ use Rattle.lms_tree.specs.Leaves.{index_count}
 use Rattle.lms_tree.specs.Lms.{public_of, signature_of}
 use Rattle.records.specs.declared.Body.{Body}
 use Rattle.records.specs.declared.Body.TheVariants.{Certificate, Note, Accusation}
+use Rattle.records.specs.declared.keys.Key.{Key}
 use Rattle.records.specs.declared.keys.Key.TheVariants as keys
 use Rattle.records.specs.Signing.{signed_bytes, CheckedRecord}
 use Rattle.epoch_store.specs.declared.Stored.{Stored}
@@ -68,11 +69,15 @@ after_signing s body (Err Closed) = s
 after_signing s body (Err (Exhausted next)) = s
 after_signing s body (Err StoreFault) = record s { closed = true }
 
+-- the public half of the key
+abbrev pub public_key : Secret → Key
+public_key key = keys.Lms (public_of key)
+
 -- the record of the body, with the signature by the leaf of this index over its signed bytes
 abbrev pub signed_by : Group → Secret → ℕ → Body → CheckedRecord
 signed_by group key index body = record {
   rec = record { body = body; signature = signature_of key index (signed_bytes group.tag group.t body) };
-  key = keys.Lms (public_of key);
+  key = public_key key;
   tag = group.tag;
   t = group.t;
 }

@@ -12,7 +12,6 @@ use Rattle.ff_ids.specs.Views.{State}
 use Rattle.ff_ids.specs.Faults.{note_fault, accusation_fault}
 use Rattle.membership.specs.Life.{Life, note_fault_in, accusation_fault_in}
 use Rattle.lms_ots.specs.Ots as ots
-use Rattle.lms_tree.specs.declared.key.PublicKey.{PublicKey}
 use Rattle.lms_tree.specs.Kinds.{type_number}
 use Rattle.records.specs.declared.CertBody.{CertBody}
 use Rattle.records.specs.declared.Body.{Body}
@@ -56,7 +55,7 @@ own_ahead own newest_note n = if n.member == own then option_map (λ stored. fau
 pub record Knowledge : Type 0 where
   pub verifies : Key → Record → Bool
   pub t : ℕ
-  pub authority : PublicKey
+  pub authority : Key
   pub certificate : ℕ → Option CertBody
   pub state : State
   pub own : ℕ
@@ -65,7 +64,7 @@ abbrev pub known_key : Knowledge → ℕ → Option Key
 known_key k m = option_map (λ c. c.key) (k.certificate m)
 
 abbrev pub first_fault_of : Knowledge → Record → Body → Option Fault
-first_fault_of k r (Certificate c) = option_or (certificate_fault (k.certificate c.member) c) (signature_fault k.verifies (Some (keys.Lms k.authority)) r)
+first_fault_of k r (Certificate c) = option_or (certificate_fault (k.certificate c.member) c) (signature_fault k.verifies (Some k.authority) r)
 first_fault_of k r (Note n) =
     option_or (note_fault k.t k.state n)
     (option_or (signature_fault k.verifies (known_key k n.member) r) (own_ahead k.own (newest k.state.notes k.own) n))
@@ -95,7 +94,7 @@ abbrev pub verifies_in : Group → Key → Record → Bool
 verifies_in g key r = is_ok (verdict_of key (signed_bytes g.tag g.t r.body) r.signature)
 
 -- an observer in the group, of this authority, certificates, state and number
-abbrev pub known_by : Group → PublicKey → Certificates → State → ℕ → Knowledge
+abbrev pub known_by : Group → Key → Certificates → State → ℕ → Knowledge
 known_by g authority certificates s own =
     record { verifies = verifies_in g; t = g.t; authority = authority; certificate = certificate_of certificates; state = s; own = own }
 

@@ -169,10 +169,10 @@ pub fn check(
     requires group { membership.now.group ≡ group.now }
     requires port { HasPort rec.body }
     ensures checked { IfOk result
-        (IsCheckOf group.now (signing_key authority.now roster.now rec.body) rec) }
+        (IsCheckOf group.now (signing_key (keys.Lms authority.now) roster.now rec.body) rec) }
     ensures unrefused { OnOk result (IsUnrefusedBy membership.now roster.now rec.body) }
     ensures fault { (s : State) → Holds membership.now s
-        → fault_in result ≡ first_fault (known_by group.now authority.now roster.now s own) rec }
+        → fault_in result ≡ first_fault (known_by group.now (keys.Lms authority.now) roster.now s own) rec }
 {
     let observer = Observer {
         group,

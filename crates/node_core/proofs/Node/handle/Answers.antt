@@ -1,3 +1,4 @@
+use Rattle.records.specs.declared.keys.Key.TheVariants as keys
 use Rattle.std.proofs.Common.{◌≡◌, Bool, true, Some, None, subst, sym, ap, ◌∙◌}
 use Rattle.records.specs.declared.Record.{Record}
 use Rattle.journal.specs.declared.event.What.TheVariants as told
@@ -105,7 +106,7 @@ accept-requires-clause-other g c =
     let v : Kept = the_view c.self.inside in
     let i = c.self.invariant in
     let newest_is : newest i.notes.state.notes v.me ≡ Some (own_note v.me v.signer.state) = (i.notes.holds.at_number v.me).newest_note ∙ i.newest_own in
-    let others = others-of (known_by v.group v.authority v.roster i.notes.state v.me) c.args.rec c.args.rec.body (own_note v.me v.signer.state) newest_is (sym (c.in-Ok.ensures.fault i.notes.state i.notes.holds)) in
+    let others = others-of (known_by v.group (keys.Lms v.authority) v.roster i.notes.state v.me) c.args.rec c.args.rec.body (own_note v.me v.signer.state) newest_is (sym (c.in-Ok.ensures.fault i.notes.state i.notes.holds)) in
     subst (λ (m : ℕ). IsOthers m c.args.rec.body) (ap (λ (w : Kept). w.me) c.self.view_is ∙ sym c.tell.ensures.grows.me) others
 
 pub accept-requires-clause-own : goal.accept-requires-clause-own

@@ -1,3 +1,4 @@
+use Rattle.records.specs.declared.keys.Key.TheVariants as keys
 use Rattle.std.proofs.Common.{refl, ◌∙◌}
 use Rattle.node_rules.proofs.Allowed.{good-allowed}
 use Rattle.node_core.specs.Rolls.{recs_of}
@@ -49,7 +50,7 @@ returns-in_default-clause-untold g c = unsigned-untold faults.OutOfMemory c.args
 
 pub open_parts-requires-clause-certificates : goal.open_parts-requires-clause-certificates
 open_parts-requires-clause-certificates g c =
-    let kit = c.requires.kit in for-tolerance c.args.kit.group c.args.kit.authority c.args.kit.certificates.items kit.checked kit.certificates.apart
+    let kit = c.requires.kit in for-tolerance c.args.kit.group (keys.Lms c.args.kit.authority) c.args.kit.certificates.items kit.checked kit.certificates.apart
 
 pub returns-clause-own : goal.returns-clause-own
 returns-clause-own g c = first-own c.args.signer c.sign_first.new.signer c.args.kit.group.t c.args.kit.me c.in_ok-first.first c.in_ok-first.ensures.signed
