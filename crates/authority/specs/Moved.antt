@@ -1,5 +1,5 @@
 -- What the lines of a text that moves a store set up, and that it was read.
-use Rattle.std.specs.Prelude.{◌≡◌, ℕ, List, Option, Some, None}
+use Rattle.std.specs.Prelude.{◌≡◌, List, Option, Some, None}
 use Rattle.std.specs.List.{slice_get}
 use Rattle.play.specs.Plays.{IoState}
 use Rattle.schedule_texts.specs.declared.line.SecretLine.{SecretLine}

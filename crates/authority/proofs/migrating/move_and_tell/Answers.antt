@@ -1,6 +1,5 @@
 use Rattle.std.proofs.Common.{◌∙◌, refl, subst, ap}
 use Rattle.std.specs.Io.KnownBytes.{Appends}
-use Rattle.play.specs.Plays.{io}
 use Rattle.ports.specs.Contents.{TookFront}
 use Rattle.authority.specs.Migrating.{migrated_line}
 use Rattle.authority.proofs.MigratingLemmas.{is-moved}
