@@ -17,8 +17,8 @@ use Rattle.ff_ids.specs.Views.{State, is_member, is_number}
 use Rattle.ff_ids.specs.Faults.{Facts, facts_of, fault_under, accusation_fault_by, accusation_fault, fault_beside, fault_after, note_fault_by, note_fault}
 use Rattle.ff_ids.proofs.FaultLemmas.{passed}
 use Rattle.life_laws.proofs.Lists.{In}
-use Rattle.lms_tree.specs.declared.key.PublicKey.{PublicKey}
-use Rattle.lms_tree.specs.Lms.{key_bytes}
+use Rattle.records.specs.declared.keys.Key.{Key}
+use Rattle.records.specs.Keys.{key_bytes}
 use Rattle.records.specs.declared.CertBody.{CertBody}
 use Rattle.records.specs.declared.Body.{Body}
 use Rattle.records.specs.declared.Body.TheVariants.{Certificate, Note, Accusation}
@@ -86,7 +86,7 @@ note-ahead : (t : ℕ) (joined : Bool) (kept : Option NoteBody) (n : NoteBody) �
 note-ahead t joined kept n =
     unless-ahead (not joined) faults.UnknownMember _ refl (unless-ahead (not (note_mask t n.mask.0)) faults.BadMask _ refl (after-ahead kept n))
 
-signature-ahead : (s : node.Setting) (author : Option PublicKey) (r : Record) → is_ahead (signature_fault s.verifies author r) ≡ false
+signature-ahead : (s : node.Setting) (author : Option Key) (r : Record) → is_ahead (signature_fault s.verifies author r) ≡ false
 signature-ahead s None r = refl
 signature-ahead s (Some key) r = either (s.verifies key r)
   where
@@ -105,12 +105,12 @@ certificate-ahead (Some kept) c = either _
 -- ---- signatures
 
 -- The record verifies under the author's key.
-pub record Verifies (s : node.Setting) (author : Option PublicKey) (r : Record) : Type 0 where
-  pub key : PublicKey
+pub record Verifies (s : node.Setting) (author : Option Key) (r : Record) : Type 0 where
+  pub key : Key
   pub author_is : author ≡ Some key
   pub verifies : s.verifies key r ≡ true
 
-pub signature-verifies : (s : node.Setting) (author : Option PublicKey) (r : Record) → signature_fault s.verifies author r ≡ None → Verifies s author r
+pub signature-verifies : (s : node.Setting) (author : Option Key) (r : Record) → signature_fault s.verifies author r ≡ None → Verifies s author r
 signature-verifies s None r none = cc
 signature-verifies s (Some key) r none =
     elim (cases_Bool (s.verifies key r)) [
@@ -252,5 +252,5 @@ certificate-refused s w m n r x k free fine is =
     let key : s.key None ≡ v.key = some-is _ _ v.author_is in
     false≢true (sym (accepted-unlisted s own n r x k.roster fine is) ∙ authority-signed s w r x k.only free is (ap (λ key. s.verifies key r) key ∙ v.verifies))
   where
-    some-is : (x y : PublicKey) → Some x ≡ Some y → x ≡ y
+    some-is : (x y : Key) → Some x ≡ Some y → x ≡ y
     some-is x y e = cc

@@ -10,7 +10,7 @@ use Rattle.ff_ids.specs.declared.summary.RecordKey.TheVariants as keys
 use Rattle.ff_ids.specs.Views.{all_numbers}
 use Rattle.ff_ids.specs.Steps.{Event, step}
 use Rattle.life_laws.proofs.Lists.{In, In-filter, In-append_left, any_within}
-use Rattle.lms_tree.specs.declared.key.PublicKey.{PublicKey}
+use Rattle.records.specs.declared.keys.Key.{Key}
 use Rattle.records.specs.declared.CertBody.{CertBody}
 use Rattle.records.specs.declared.Body.{Body}
 use Rattle.records.specs.declared.Body.TheVariants.{Certificate, Note, Accusation}
@@ -158,14 +158,14 @@ roster-started s own seed kept =
 
 -- ---- what follows from the roster
 
-key-of_entry : (s : Setting) (k : ℕ) (listed : Bool) (key : PublicKey) → option_map (λ c. c.key) (cond listed (Some (certificate s k)) None) ≡ Some key → key ≡ s.key (Some k)
+key-of_entry : (s : Setting) (k : ℕ) (listed : Bool) (key : Key) → option_map (λ c. c.key) (cond listed (Some (certificate s k)) None) ≡ Some key → key ≡ s.key (Some k)
 key-of_entry s k true key e = some-is _ _ e
   where
-    some-is : (x y : PublicKey) → Some x ≡ Some y → y ≡ x
+    some-is : (x y : Key) → Some x ≡ Some y → y ≡ x
     some-is x y e = cc
 key-of_entry s k false key e = cc
 
-pub roster-key : (s : Setting) (n : Node) (k : ℕ) (key : PublicKey) → KeepsRoster s n → public_key_of n k ≡ Some key → key ≡ s.key (Some k)
+pub roster-key : (s : Setting) (n : Node) (k : ℕ) (key : Key) → KeepsRoster s n → public_key_of n k ≡ Some key → key ≡ s.key (Some k)
 roster-key s n k key keeps e = key-of_entry s k (list_any (λ m. eqb m k) (members s)) key (sym (ap (λ o. option_map (λ c. c.key) o) (keeps k)) ∙ e)
 
 map-none : {X Y : Type 0} (f : X → Y) (o : Option X) → option_map f o ≡ None → o ≡ None

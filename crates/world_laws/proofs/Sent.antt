@@ -3,7 +3,7 @@ use Rattle.std.proofs.Common.{◌≡◌, ℕ, ◌+◌, ◌<◌, ◌≤◌, true,
 use Rattle.std.specs.List.{AllByRecursion}
 use Rattle.std.specs.Option.{option_map}
 use Rattle.life_laws.proofs.Lists.{All-at, All-from_In}
-use Rattle.lms_tree.specs.declared.key.PublicKey.{PublicKey}
+use Rattle.records.specs.declared.keys.Key.{Key}
 use Rattle.records.specs.declared.CertBody.{CertBody}
 use Rattle.records.specs.declared.Body.{Body}
 use Rattle.records.specs.declared.Body.TheVariants.{Certificate, Note, Accusation}
@@ -55,7 +55,7 @@ good-kit s m verify few = good-certified s m 0 (members s) verify (omega (arith,
 
 -- ---- a call
 
-by-roster : (s : Setting) (m : ℕ) (n : node.Node) (b : Body) (key : PublicKey) → KeepsRoster s n → author_key (setting_of s m) n b ≡ Some key → signer_key s b ≡ Some key
+by-roster : (s : Setting) (m : ℕ) (n : node.Node) (b : Body) (key : Key) → KeepsRoster s n → author_key (setting_of s m) n b ≡ Some key → signer_key s b ≡ Some key
 by-roster s m n (Certificate c) key keeps e = e
 by-roster s m n (Note note) key keeps e = ap (λ o. option_map (λ c. c.key) o) (sym (keeps note.member)) ∙ e
 by-roster s m n (Accusation a) key keeps e = ap (λ o. option_map (λ c. c.key) o) (sym (keeps a.accuser)) ∙ e

@@ -12,7 +12,7 @@ use Rattle.ff_ids.specs.Masks.{all_rings, enabled, enables, good_mask, ring_coun
 use Rattle.ff_ids.specs.Notes.{is_leaving}
 use Rattle.ff_ids.specs.Steps.{Event, Accuses, Notes}
 use Rattle.life_laws.proofs.Lists.{In, Contains-from_In, In-append_left, In-append_right, In-append_cases, any_from_In}
-use Rattle.lms_tree.specs.declared.key.PublicKey.{PublicKey}
+use Rattle.records.specs.declared.keys.Key.{Key}
 use Rattle.records.specs.declared.Body.{Body}
 use Rattle.records.specs.declared.Body.TheVariants.{Certificate, Note, Accusation}
 use Rattle.records.specs.declared.Record.{Record}
@@ -101,12 +101,12 @@ pub record Verified (s : Setting) (b : Body) (r : Record) : Type 0 where
   pub listed : IsListed s b
   pub verifies : s.verifies (s.key (Some (author_of b))) r ≡ true
 
-listed-of : (s : Setting) (k : ℕ) (key : PublicKey) (listed : Bool) → option_map (λ c. c.key) (cond listed (Some (certificate s k)) None) ≡ Some key → listed ≡ true
+listed-of : (s : Setting) (k : ℕ) (key : Key) (listed : Bool) → option_map (λ c. c.key) (cond listed (Some (certificate s k)) None) ≡ Some key → listed ≡ true
 listed-of s k key true e = refl
 listed-of s k key false e = cc
 
 -- Whose key a node has by its roster is a member.
-roster-listed : (s : Setting) (n : Node) (k : ℕ) (key : PublicKey) → KeepsRoster s n → public_key_of n k ≡ Some key → list_any (λ m. eqb m k) (members s) ≡ true
+roster-listed : (s : Setting) (n : Node) (k : ℕ) (key : Key) → KeepsRoster s n → public_key_of n k ≡ Some key → list_any (λ m. eqb m k) (members s) ≡ true
 roster-listed s n k key keeps e = listed-of s k key (list_any (λ m. eqb m k) (members s)) (sym (ap (λ o. option_map (λ c. c.key) o) (keeps k)) ∙ e)
 
 verified-by : (s : Setting) (m : ℕ) (n : Node) (r : Record) (b : Body) → KeepsRoster s n → signature_fault (setting_of s m).verifies (public_key_of n (author_of b)) r ≡ None → Verified s b r

@@ -2,7 +2,7 @@
 use Rattle.std.specs.Prelude.{◌≡◌, ℕ, ◌≤◌, true, List, length, Option, Some, None}
 use Rattle.std.specs.List.{AllByRecursion}
 use Rattle.std.specs.Option.{option_map}
-use Rattle.lms_tree.specs.declared.key.PublicKey.{PublicKey}
+use Rattle.records.specs.declared.keys.Key.{Key}
 use Rattle.records.specs.declared.Body.{Body}
 use Rattle.records.specs.declared.Body.TheVariants.{Certificate, Note, Accusation}
 use Rattle.records.specs.declared.Record.{Record}
@@ -18,14 +18,14 @@ use Rattle.world_laws.specs.Laws.{SignaturesVerify}
 
 -- Under this key a record with the body is to verify: the authority's for a certificate; for a note its member's and for an
 -- accusation its accuser's, where these are members.
-abbrev pub signer_key : Setting → Body → Option PublicKey
+abbrev pub signer_key : Setting → Body → Option Key
 signer_key s (Certificate c) = Some (s.key None)
 signer_key s (Note note) = option_map (λ c. c.key) (certificate_for s note.member)
 signer_key s (Accusation a) = option_map (λ c. c.key) (certificate_for s a.accuser)
 
 -- The record verifies under that key.
 pub record IsAuthentic (s : Setting) (r : Record) : Type 0 where
-  pub key : PublicKey
+  pub key : Key
   pub signer_is : signer_key s r.body ≡ Some key
   pub verifies : s.verifies key r ≡ true
 

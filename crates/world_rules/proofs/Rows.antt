@@ -9,7 +9,8 @@ use Rattle.ff_ids.specs.declared.Fault.TheVariants as faults
 use Rattle.ff_ids.specs.declared.AccBody.{AccBody}
 use Rattle.lms_ots.specs.declared.OtsKind.TheVariants.{W8}
 use Rattle.lms_tree.specs.declared.TreeKind.TheVariants.{H5}
-use Rattle.lms_tree.specs.declared.key.PublicKey.{PublicKey}
+use Rattle.records.specs.declared.keys.Key.{Key}
+use Rattle.records.specs.declared.keys.Key.TheVariants as keys
 use Rattle.records.specs.declared.Body.{Body}
 use Rattle.records.specs.declared.Body.TheVariants.{Certificate, Note, Accusation}
 use Rattle.records.specs.declared.Record.{Record}
@@ -48,8 +49,8 @@ abbrev pub code_of : Owner → ℕ
 code_of None = 255
 code_of (Some m) = m
 
-abbrev pub key_of : Owner → PublicKey
-key_of who = record { tree = H5; ots = W8; id = code_of who ∷ replicate 15 0; root = replicate 32 0 }
+abbrev pub key_of : Owner → Key
+key_of who = keys.Lms (record { tree = H5; ots = W8; id = code_of who ∷ replicate 15 0; root = replicate 32 0 })
 
 abbrev pub body_code : Body → ℕ
 body_code (Certificate c) = c.member % 256
@@ -59,8 +60,8 @@ body_code (Accusation a) = (a.accuser + 3 * a.accused + 5 * a.epoch + 7 * a.ring
 abbrev pub signature_by : Owner → ℕ → Body → List ℕ
 signature_by who index body = code_of who ∷ index ∷ body_code body ∷ []
 
-abbrev pub verifies : PublicKey → Record → Bool
-verifies key r = (slice_index key.id 0 == slice_index r.signature 0) && (slice_index r.signature 2 == body_code r.body)
+abbrev pub verifies : Key → Record → Bool
+verifies (keys.Lms key) r = (slice_index key.id 0 == slice_index r.signature 0) && (slice_index r.signature 2 == body_code r.body)
 
 abbrev pub group : Group
 group = record { tag = replicate 16 0; t = 1; timeout = 4; period = 1; misses = 2 }

@@ -6,10 +6,12 @@ use Rattle.lms_ots.specs.declared.OtsKind.{OtsKind}
 use Rattle.lms_tree.specs.declared.TreeKind.{TreeKind}
 use Rattle.lms_tree.specs.declared.secret.Secret.{Secret}
 use Rattle.lms_tree.specs.Kinds.{leaf_count}
-use Rattle.lms_tree.specs.Lms.{public_of, signature_of, verdict_of}
+use Rattle.lms_tree.specs.Lms.{signature_of}
+use Rattle.records.specs.Keys.{verdict_of}
 use Rattle.records.specs.Signing.{signed_bytes}
 use Rattle.ring_order.specs.Hashed.{hashed_places}
 use Rattle.secrets.specs.Secrets.{key_from, nonce_seed, world_secret}
+use Rattle.signer.specs.Signing.{public_key}
 use Rattle.world_rules.specs.Settings.{Owner, Setting}
 
 -- The authority's secret is that of a number which no member has.
@@ -34,7 +36,7 @@ setting_for g ots tree correct liars =
       liars = liars;
       places = hashed_places g.tag g.t;
       verifies = λ public r. is_ok (verdict_of public (signed_bytes g.tag g.t r.body) r.signature);
-      key = λ who. public_of (owner_key g ots tree who);
+      key = λ who. public_key (owner_key g ots tree who);
       signature = λ who index body. signature_of (owner_key g ots tree who) index (signed_bytes g.tag g.t body);
       nonces = λ m first. nonce_seed (owner_secret g (Some m)) first;
     }

@@ -3,8 +3,8 @@ use Rattle.std.specs.Prelude.{ℕ, ◌+◌, Bool, false, ◌&&◌, ◌==◌, byt
 use Rattle.std.specs.List.{list_any}
 use Rattle.ff_ids.specs.declared.Group.{Group}
 use Rattle.ff_ids.specs.Faults.{same_accusation}
-use Rattle.lms_tree.specs.declared.key.PublicKey.{PublicKey}
-use Rattle.lms_tree.specs.Lms.{key_bytes}
+use Rattle.records.specs.declared.keys.Key.{Key}
+use Rattle.records.specs.Keys.{key_bytes}
 use Rattle.records.specs.declared.CertBody.{CertBody}
 use Rattle.records.specs.declared.Body.{Body}
 use Rattle.records.specs.declared.Body.TheVariants.{Certificate, Note, Accusation}
@@ -25,8 +25,8 @@ pub record Setting : Type 0 where
   pub correct : List ℕ
   pub liars : List ℕ
   pub places : ℕ → List (List ℕ)
-  pub verifies : PublicKey → Record → Bool
-  pub key : Owner → PublicKey
+  pub verifies : Key → Record → Bool
+  pub key : Owner → Key
   pub signature : Owner → ℕ → Body → List ℕ
   pub nonces : ℕ → ℕ → List ℕ
 
