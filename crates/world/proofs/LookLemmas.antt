@@ -7,7 +7,9 @@ use Rattle.std.proofs.lemmas.Option.{slice_get-map}
 use Rattle.ff_ids.specs.declared.RingNo.{RingNo}
 use Rattle.schedule_world.specs.declared.line.WorldLine.TheVariants as lines
 use Rattle.schedule_world.specs.declared.line.WorldLine.{WorldLine}
+use Rattle.lms_tree.specs.declared.key.PublicKey.{PublicKey}
 use Rattle.records.specs.declared.CertBody.{CertBody}
+use Rattle.records.specs.declared.keys.Key.TheVariants as keys
 use Rattle.validate.specs.Certified.{certificate_of as kept_certificate}
 use Rattle.node_core.specs.Playing as node
 use Rattle.node_rules.specs.Nodes as rules
@@ -58,6 +60,9 @@ runs-at s w told v m at x h is found = running-is s (w.hosts m).disk m x.node (w
 
 -- ---- a node's place
 
+lms-is : (x y : PublicKey) → keys.Lms x ≡ keys.Lms y → x ≡ y
+lms-is x y e = cc
+
 pub is-place : (s : Setting) (w : ModelWorld) (told : List NodeEvent) (v : Kept) (at : ℕ) (x : HostState) → Holds s w told v → slice_get v.hosts at ≡ Some x → IsPlaceOf v.authority x.member x.public
 is-place s w told v at x h found =
     let there : slice_get (numbers v) at ≡ Some x.member = slice_get-map (λ (y : HostState). y.member) v.hosts at ∙ ap (option_map (λ (y : HostState). y.member)) found in
@@ -69,7 +74,7 @@ is-place s w told v at x h found =
       authority = h.authority;
       group = h.ranges;
       node = place-node s (numbers v) x.member at h.nodes there;
-      public = (host-at s h.ots h.tree w at v.hosts x found h.hosts).public ∙ own-public s v.authority.group h.ots h.tree x.member h.world;
+      public = lms-is x.public _ ((host-at s h.ots h.tree w at v.hosts x found h.hosts).public ∙ own-public s v.authority.group h.ots h.tree x.member h.world);
     }
 
 -- ---- a node that is asked about a monitor

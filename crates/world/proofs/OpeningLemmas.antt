@@ -21,6 +21,8 @@ use Rattle.node_core.specs.Begins.{IsGroup}
 use Rattle.node_core.specs.Rolls.{recs_of}
 use Rattle.node_rules.specs.Nodes.{in_order}
 use Rattle.signer.specs.Lives.{Spent}
+use Rattle.records.specs.declared.keys.Key.TheVariants as keys
+use Rattle.signer.specs.Signing.{public_key}
 use Rattle.world_rules.specs.Counts.{nothing_counted}
 use Rattle.world_rules.specs.Keys.{owner_key, setting_for}
 use Rattle.world_rules.specs.Settings.{Setting, Signed, certificate, certificates, certified_from, is_liar, is_node, by_authority, members, nodes, record_of}
@@ -98,7 +100,7 @@ new-liar s ots tree m secret x h own =
 
 -- the record of the new certificate is the one that the setting tells
 new-record : (g : Group) (ots : OtsKind) (tree : TreeKind) (correct liars : List ℕ) (a : Certifying) (signing : LeavesOf) (m index : ℕ) (secret : Secret) → a.group ≡ g → signing.key ≡ owner_key g ots tree None → signing.next ≡ index → secret ≡ owner_key g ots tree (Some m)
-    → (new_certificate a signing m (public_of secret)).rec ≡ record_of (setting_for g ots tree correct liars) (record { who = None; index = index; body = Certificate (certificate (setting_for g ots tree correct liars) m) })
+    → (new_certificate a signing m (public_key secret)).rec ≡ record_of (setting_for g ots tree correct liars) (record { who = None; index = index; body = Certificate (certificate (setting_for g ots tree correct liars) m) })
 unfolding setting_for
 new-record g ots tree correct liars a signing m index secret group key next own = rw (group, key, next, own) refl
 
@@ -130,15 +132,15 @@ one-listed listed m is = listed-next listed m ∙ ap (λ (b : Bool). listed_belo
 
 certified-more : (s : Setting) (ots : OtsKind) (tree : TreeKind) (m : ℕ) (signing : LeavesOf) (v : Kept) (secret : Secret) → s ≡ setting_for v.authority.group ots tree s.correct s.liars → secret ≡ owner_key v.authority.group ots tree (Some m)
     → (is_node s m || is_liar s m) ≡ true → Builds s ots tree m signing v
-    → recs_of (with_certificate v signing m (public_of secret)).authority.certificates ≡ map (record_of s) (certified_from s 0 (listed_below (s.correct ++ s.liars) (m + 1)))
+    → recs_of (with_certificate v signing m (public_key secret)).authority.certificates ≡ map (record_of s) (certified_from s 0 (listed_below (s.correct ++ s.liars) (m + 1)))
 certified-more s ots tree m signing v secret made own is h =
     let listed : List ℕ = listed_below (s.correct ++ s.liars) m in
     let signed : Signed = record { who = None; index = 0 + length listed; body = Certificate (certificate s m) } in
-    let made_so : (new_certificate v.authority signing m (public_of secret)).rec ≡ record_of s signed =
-    subst (λ (z : Setting). (new_certificate v.authority signing m (public_of secret)).rec ≡ record_of z (record { who = None; index = 0 + length listed; body = Certificate (certificate z m) })) (sym made)
+    let made_so : (new_certificate v.authority signing m (public_key secret)).rec ≡ record_of s signed =
+    subst (λ (z : Setting). (new_certificate v.authority signing m (public_key secret)).rec ≡ record_of z (record { who = None; index = 0 + length listed; body = Certificate (certificate z m) })) (sym made)
     (new-record v.authority.group ots tree s.correct s.liars v.authority signing m (0 + length listed) secret refl (h.key ∙ ap (λ (g : Group). owner_key g ots tree None) (sym h.group)) (h.next ∙ from-zero (length listed)) own) in
-    map-push (λ (x : CheckedRecord). x.rec) v.authority.certificates (new_certificate v.authority signing m (public_of secret))
-    ∙ ap (λ (z : List Record). z ++ (new_certificate v.authority signing m (public_of secret)).rec ∷ []) h.certified
+    map-push (λ (x : CheckedRecord). x.rec) v.authority.certificates (new_certificate v.authority signing m (public_key secret))
+    ∙ ap (λ (z : List Record). z ++ (new_certificate v.authority signing m (public_key secret)).rec ∷ []) h.certified
     ∙ ap (λ (z : Record). map (record_of s) (certified_from s 0 listed) ++ z ∷ []) made_so
     ∙ sym (map-push (record_of s) (certified_from s 0 listed) signed)
     ∙ ap (map (record_of s)) (sym (certified-push s 0 listed m))
@@ -273,7 +275,7 @@ builds-first g ots tree correct liars signing v key next authority nobody no_lia
       key = key;
       next = next;
       group = ap (λ a. a.group) authority;
-      authority = ap (λ a. a.key) authority ∙ ap public_of key;
+      authority = ap keys.Lms (ap (λ a. a.key) authority ∙ ap public_of key);
       certified = ap (λ a. recs_of a.certificates) authority;
       nodes = ap (map (λ x. x.member)) nobody;
       hosts = subst (AllByRecursion (HoldsPlace (setting_for g ots tree correct liars) ots tree (begun_world (setting_for g ots tree correct liars)))) (sym nobody) tt;

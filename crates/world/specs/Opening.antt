@@ -3,13 +3,13 @@ use Rattle.std.specs.Prelude.{◌≡◌, ℕ, ◌+◌, ◌<◌, ◌==◌, ◌++�
 use Rattle.std.specs.List.{AllByRecursion, list_any, range_with_len}
 use Rattle.lms_ots.specs.declared.OtsKind.{OtsKind}
 use Rattle.lms_tree.specs.declared.TreeKind.{TreeKind}
-use Rattle.lms_tree.specs.declared.key.PublicKey.{PublicKey}
 use Rattle.lms_tree.specs.declared.secret.Secret.{Secret}
 use Rattle.lms_tree.specs.Leaves.{LeavesOf, index_count}
-use Rattle.lms_tree.specs.Lms.{public_of}
 use Rattle.records.specs.declared.Body.TheVariants.{Certificate}
+use Rattle.records.specs.declared.keys.Key.{Key}
+use Rattle.records.specs.declared.keys.Key.TheVariants as keys
 use Rattle.records.specs.Signing.{CheckedRecord}
-use Rattle.signer.specs.Signing.{signed_by}
+use Rattle.signer.specs.Signing.{public_key, signed_by}
 use Rattle.world.specs.declared.liar.Liar.{Liar}
 use Rattle.world_host.specs.Hosts.{HostState}
 use Rattle.world_host.specs.Holding.{HoldsHost, IsWorld, made_place}
@@ -35,7 +35,7 @@ pub record Builds (s : Setting) (ots : OtsKind) (tree : TreeKind) (n : ℕ) (sig
   pub key : signing.key ≡ owner_key s.group ots tree None
   pub next : signing.next ≡ length (listed_below (s.correct ++ s.liars) n)
   pub group : v.authority.group ≡ s.group
-  pub authority : v.authority.key ≡ s.key None
+  pub authority : keys.Lms v.authority.key ≡ s.key None
   pub certified : recs_of v.authority.certificates ≡ map (record_of s) (certified_from s 0 (listed_below (s.correct ++ s.liars) n))
   pub nodes : map (λ x. x.member) v.hosts ≡ listed_below s.correct n
   pub hosts : AllByRecursion (HoldsPlace s ots tree (begun_world s)) v.hosts
@@ -54,10 +54,10 @@ abbrev pub HasLeafFor : List ℕ → LeavesOf → ℕ → Type 0
 HasLeafFor listed signing m = list_any (λ x. x == m) listed ≡ true → signing.next < index_count signing.key
 
 -- The certificate of the member with this key, by the next leaf.
-abbrev pub new_certificate : Certifying → LeavesOf → ℕ → PublicKey → CheckedRecord
+abbrev pub new_certificate : Certifying → LeavesOf → ℕ → Key → CheckedRecord
 new_certificate a signing m key = signed_by a.group signing.key signing.next (Certificate (record { member = m; port = 20000 + m; key = key }))
 
-abbrev pub with_certificate : Kept → LeavesOf → ℕ → PublicKey → Kept
+abbrev pub with_certificate : Kept → LeavesOf → ℕ → Key → Kept
 with_certificate v signing m key = record v { authority = record v.authority { certificates = v.authority.certificates ++ new_certificate v.authority signing m key ∷ [] } }
 
 -- The member was certified, and has its host, where no life has begun.
@@ -65,7 +65,7 @@ pub record AddsNode (older newer : Kept) (signing : LeavesOf) (m : ℕ) (secret 
   pub host : HostState
   pub member : host.member ≡ m
   pub holds : (s : Setting) (ots : OtsKind) (tree : TreeKind) → IsWorld s older.authority.group ots tree → secret ≡ owner_key older.authority.group ots tree (Some m) → HoldsHost s ots tree (made_place s) [] host
-  pub added : newer ≡ record (with_certificate older signing m (public_of secret)) { hosts = older.hosts ++ host ∷ [] }
+  pub added : newer ≡ record (with_certificate older signing m (public_key secret)) { hosts = older.hosts ++ host ∷ [] }
 
 -- The liar with this key, which has signed nothing.
 pub record IsNewLiar (m : ℕ) (secret : Secret) (x : Liar) : Type 0 where
@@ -76,4 +76,4 @@ pub record IsNewLiar (m : ℕ) (secret : Secret) (x : Liar) : Type 0 where
 pub record AddsLiar (older newer : Kept) (signing : LeavesOf) (m : ℕ) (secret : Secret) : Type 0 where
   pub liar : Liar
   pub is_new : IsNewLiar m secret liar
-  pub added : newer ≡ record (with_certificate older signing m (public_of secret)) { liars = older.liars ++ liar ∷ [] }
+  pub added : newer ≡ record (with_certificate older signing m (public_key secret)) { liars = older.liars ++ liar ∷ [] }

@@ -6,7 +6,7 @@ ghost use Rattle.std.specs.List.{list_any};
 ghost use Rattle.std.specs.Option.{option_and_then};
 ghost use Rattle.std.specs.Result.{is_ok};
 ghost use Rattle.datagram.specs.Spelling.{IsSignedRecord, IsWritable as IsSendable, KeepsRules};
-ghost use Rattle.lms_tree.specs.Lms.{verdict_of};
+ghost use Rattle.records.specs.Keys.{verdict_of};
 ghost use Rattle.records.specs.Signing.{signed_bytes as signed_bytes_of};
 ghost use Rattle.records.specs.Spelling.{IsWritable, record_bytes};
 ghost use Rattle.world_rules.specs.Forgeries.{first_forgery, forgery, forgery_by, forgery_in, is_forged_for};
@@ -22,8 +22,7 @@ use datagram::{Datagram, read};
 use ff_ids::{Group, MemberId};
 use fields::NoMemory;
 use indexmap::IndexSet;
-use lms_tree::{PublicKey, verify};
-use records::{FormFault, Record, signed_bytes, write_record};
+use records::{FormFault, Key, Record, signed_bytes, write_record};
 use std::alloc::Global;
 use std::marker::Model;
 
@@ -77,13 +76,14 @@ fn spelled(alloc: Global, rec: &Record) -> Result<Vec<u8>, NoMemory>
 }
 
 /// Whether the record's signature is one of this key, in the group.
-fn verifies(group: &Group, key: &PublicKey, rec: &Record) -> bool
+fn verifies(group: &Group, key: &Key, rec: &Record) -> bool
     ensures { result ≡ is_ok
         (verdict_of key.now (signed_bytes_of group.now.tag group.now.t rec.now.body)
         rec.now.signature) }
 {
     let signed = signed_bytes(group, &rec.body);
-    verify(key, signed.as_slice(), rec.signature.as_slice()).is_ok()
+    key.verify(signed.as_slice(), rec.signature.as_slice())
+        .is_ok()
 }
 
 impl World {
@@ -93,7 +93,11 @@ impl World {
             → result ≡ is_forged_for s w rec.now None }
     {
         !self.authority.has_signed(&rec.body)
-            && verifies(self.authority.group(), self.authority.key(), rec)
+            && verifies(
+                self.authority.group(),
+                &Key::Lms(*self.authority.key()),
+                rec,
+            )
     }
 
     /// Whether the record is forged for the node at this host.
@@ -104,7 +108,8 @@ impl World {
             → result ≡ is_forged_for s w rec.now (Some m) }
     {
         let host = &self.hosts[at];
-        !host.has_signed(&rec.body) && verifies(self.authority.group(), host.public(), rec)
+        !host.has_signed(&rec.body)
+            && verifies(self.authority.group(), &Key::Lms(*host.public()), rec)
     }
 
     /// The first node for which the record is forged.

@@ -23,9 +23,9 @@ use ff_ids::{Group, MEMBERS, MemberId};
 use fields::NoMemory;
 use indexmap::IndexMap;
 use lms_ots::OtsKind;
-use lms_tree::{PublicKey, TreeKind};
+use lms_tree::TreeKind;
 use node_core::Outbox;
-use records::{Body, CertBody, Checked};
+use records::{Body, CertBody, Checked, Key};
 use std::alloc::Global;
 use world_host::{AUTHORITY, Authority, Host, Kinds, SigningKey, key_of};
 
@@ -36,7 +36,7 @@ fn certify(
     group: &Group,
     authority: &mut SigningKey,
     member: MemberId,
-    key: PublicKey,
+    key: Key,
 ) -> Result<Checked, NoMemory>
     requires { authority.old.next < index_count authority.old.key }
     ensures signed { IfOk result
@@ -99,7 +99,7 @@ impl World {
     fn add_certificate(
         &mut self,
         member: MemberId,
-        key: PublicKey,
+        key: Key,
         signing: &mut SigningKey,
     ) -> Result<(), NoMemory>
         requires key { self.old.authority.key ≡ public_of signing.old.key }
@@ -130,7 +130,7 @@ impl World {
             (signing.new ≡ record signing.old { next = signing.old.next + 1 }) }
     {
         let key = key_of(self.alloc, self.authority.group(), kinds, member.get())?;
-        self.add_certificate(member, key.public(), signing)?;
+        self.add_certificate(member, Key::Lms(key.public()), signing)?;
         let host = Host::open(self.alloc, self.authority.group(), member, key)?;
         self.hosts.push(host)?;
         Ok(())
@@ -152,7 +152,7 @@ impl World {
             (signing.new ≡ record signing.old { next = signing.old.next + 1 }) }
     {
         let key = key_of(self.alloc, self.authority.group(), kinds, member.get())?;
-        self.add_certificate(member, key.public(), signing)?;
+        self.add_certificate(member, Key::Lms(key.public()), signing)?;
         self.liars.push(Liar::open(self.alloc, member, key))?;
         Ok(())
     }

@@ -7,6 +7,8 @@ use Rattle.std.proofs.lemmas.List.Folds.{list_any-append}
 use Rattle.ff_ids.specs.declared.TheConstants.{MEMBERS}
 use Rattle.ff_ids.specs.Views.{all_numbers}
 use Rattle.lms_tree.specs.declared.key.PublicKey.{PublicKey}
+use Rattle.records.specs.declared.keys.Key.{Key}
+use Rattle.records.specs.declared.keys.Key.TheVariants as keys
 use Rattle.records.specs.declared.CertBody.{CertBody}
 use Rattle.records.specs.declared.Body.TheVariants.{Certificate}
 use Rattle.records.specs.declared.Record.{Record}
@@ -78,17 +80,17 @@ kit-among s m low is =
 
 -- ---- its key
 
-own-key : (s : Setting) (m k : ℕ) (own : PublicKey) → own ≡ s.key (Some m) → (c : CertBody) → Certificate (certificate s k) ≡ Certificate c → c.member ≡ m → c.key ≡ own
+own-key : (s : Setting) (m k : ℕ) (own : Key) → own ≡ s.key (Some m) → (c : CertBody) → Certificate (certificate s k) ≡ Certificate c → c.member ≡ m → c.key ≡ own
 own-key s m k own is c same me =
     let cert : certificate s k ≡ c = cc in
     let number : k ≡ m = ap (λ (x : CertBody). x.member) cert ∙ me in
     sym (ap (λ (x : CertBody). x.key) cert) ∙ ap (λ (j : ℕ). s.key (Some j)) number ∙ sym is
 
-keys-from : (s : Setting) (m index : ℕ) (own : PublicKey) (ms : List ℕ) → own ≡ s.key (Some m) → AllByRecursion (HasKey m own) (certified s index ms)
+keys-from : (s : Setting) (m index : ℕ) (own : Key) (ms : List ℕ) → own ≡ s.key (Some m) → AllByRecursion (HasKey m own) (certified s index ms)
 keys-from s m index own [] is = tt
 keys-from s m index own (k ∷ ms) is = (own-key s m k own is, keys-from s m (index + 1) own ms is)
 
-kit-keys : (s : Setting) (m : ℕ) (own : PublicKey) → own ≡ s.key (Some m) → AllByRecursion (HasKey m own) (certificates s)
+kit-keys : (s : Setting) (m : ℕ) (own : Key) → own ≡ s.key (Some m) → AllByRecursion (HasKey m own) (certificates s)
 unfolding by_authority
 kit-keys s m own is = keys-from s m 0 own (members s) is
 
@@ -100,18 +102,18 @@ each {X = X} P (x ∷ xs) h = (h 0 x (omega arith), each P xs (λ k d lt. h (suc
 
 -- The kit of a node of a world is sound for its key.
 pub kit-sound : (a : Certifying) (m : ℕ) (own : PublicKey) (kit : Kit) → m < MEMBERS → IsPlaceOf a m own → kit.group ≡ a.group → kit.me ≡ m → kit.certificates.items ≡ a.certificates
-    → All (IsCheckedIn kit.group kit.authority) kit.certificates.items → All IsChecked kit.certificates.items → IsKit kit own
+    → All (IsCheckedIn kit.group (keys.Lms kit.authority)) kit.certificates.items → All IsChecked kit.certificates.items → IsKit kit (keys.Lms own)
 kit-sound a m own kit low p group me same checked verify =
     let s : Setting = p.setting in
     let recs : recs_of kit.certificates.items ≡ certificates s = ap recs_of same ∙ p.authority.certified in
-    let public : own ≡ s.key (Some m) = p.public ∙ sym (own-public s a.group p.ots p.tree m p.world) in
+    let public : keys.Lms own ≡ s.key (Some m) = ap keys.Lms p.public ∙ sym (own-public s a.group p.ots p.tree m p.world) in
     record {
       group = subst IsGroup (sym group) p.group;
       checked = checked;
-      certificates = subst (λ (j : ℕ). AreCertificatesOf j own kit.certificates.items) (sym me) (record {
+      certificates = subst (λ (j : ℕ). AreCertificatesOf j (keys.Lms own) kit.certificates.items) (sym me) (record {
         apart = subst AreApart (sym recs) (kit-apart s);
         among = subst (λ (rs : List Record). list_any (λ r. is_certificate_for m r.body) rs ≡ true) (sym recs) (kit-among s m low p.node);
-        keys = subst (λ (rs : List Record). AllByRecursion (HasKey m own) rs) (sym recs) (kit-keys s m own public);
+        keys = subst (λ (rs : List Record). AllByRecursion (HasKey m (keys.Lms own)) rs) (sym recs) (kit-keys s m (keys.Lms own) public);
         verify = each IsChecked kit.certificates.items verify;
       });
     }

@@ -19,7 +19,7 @@ use Rattle.signer.specs.Signing.{SignerState, next_note, stored_after}
 use Rattle.journal.specs.declared.event.Event as journal
 use Rattle.node_rules.specs.Calls.{Call}
 use Rattle.node_rules.specs.Replies.{first_mask}
-use Rattle.lms_tree.specs.declared.key.PublicKey.{PublicKey}
+use Rattle.records.specs.declared.keys.Key.{Key}
 use Rattle.lms_tree.specs.Leaves.{index_count}
 use Rattle.node_rules.specs.Nodes as node
 use Rattle.node_core.specs.declared.NodeFault.{NodeFault}
@@ -105,7 +105,7 @@ ComesTo s tag m e d events (Ok v) = Begins s tag m e d events v
 ComesTo s tag m e d events (Err faults.StoreFault) = FailsToBegin s tag m e d
 ComesTo s tag m e d events (Err other) = Unit {0}
 
-pub begins-by : (s : Setting) (g other : Group) (ots : OtsKind) (tree : TreeKind) (m me : ℕ) (tag seed : List ℕ) (own : PublicKey) (records : List Record) (e : Disk) (d r : DiskState) (signer : SignerState) (x : node.Setting) (before after : List journal.Event) (result : Result Kept NodeFault)
+pub begins-by : (s : Setting) (g other : Group) (ots : OtsKind) (tree : TreeKind) (m me : ℕ) (tag seed : List ℕ) (own : Key) (records : List Record) (e : Disk) (d r : DiskState) (signer : SignerState) (x : node.Setting) (before after : List journal.Event) (result : Result Kept NodeFault)
     → IsWorld s g ots tree → HoldsDisk tag s.indexes d e → seed ≡ s.nonces m e.state.next → records ≡ certificates s → before ≡ [] → other ≡ g → me ≡ m → signer.state ≡ e.state → signer.seat ≡ seat_of tag e → index_count signer.key ≡ s.indexes → setting_of s m ≡ x
     → IfOk result (λ v. (t : node.Setting) → t ≡ x → Starts t seed records signer.state v before after) → IfOk result (λ v. (t : node.Setting) → t ≡ x → IsVouchable t own records signer.state) → IfOk result (λ v. v.ended ≡ false) → IfOk result (λ v. v.signer.closed ≡ false)
     → IfOk result (λ v. v.signer.seat ≡ next_seat signer.seat (kept_first other.t me signer.state)) → tag ≡ tag_of s m → IfErr result (λ fault. MayRefuse signer fault) → PutsFirst (kept_first other.t me signer.state) signer.seat (Some d) (Some r) result → ComesTo s tag m e r after result
@@ -140,7 +140,7 @@ answer-is s tag m e d events (Err (faults.Exhausted next)) answer h is = absurd 
 answer-is s tag m e d events (Err faults.Ended) answer h is = absurd is
 
 -- What starts is going.
-pub start-going : (x : node.Setting) (own : PublicKey) (seed : List ℕ) (records : List Record) (stored : Stored) (before after : List journal.Event) (came : Result Kept NodeFault) (answer : Result (Option Kept) NoMemory)
+pub start-going : (x : node.Setting) (own : Key) (seed : List ℕ) (records : List Record) (stored : Stored) (before after : List journal.Event) (came : Result Kept NodeFault) (answer : Result (Option Kept) NoMemory)
     → IfOk came (λ v. (t : node.Setting) → t ≡ x → Starts t seed records stored v before after) → IfOk came (λ v. (t : node.Setting) → t ≡ x → IsVouchable t own records stored)
     → IfOk came (λ v. v.ended ≡ false) → IsStart came answer → IfOk answer (λ o. IfSome o IsGoing)
 start-going x own seed records stored before after (Ok v) answer starts vouched going is =

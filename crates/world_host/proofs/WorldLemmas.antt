@@ -11,14 +11,15 @@ use Rattle.lms_tree.specs.declared.secret.Secret.{Secret}
 use Rattle.lms_tree.specs.Kinds.{leaf_count}
 use Rattle.lms_tree.specs.Leaves.{index_count}
 use Rattle.lms_tree.specs.Lms.{public_of}
-use Rattle.secrets.specs.Secrets.{key_from, store_tag, world_secret}
+use Rattle.records.specs.declared.keys.Key.TheVariants as keys
+use Rattle.secrets.specs.Secrets.{key_from, world_secret}
 use Rattle.signer.specs.Lives.{Spent}
 use Rattle.signer.proofs.StepLemmas.{leaf_count_small}
 use Rattle.node_core.specs.Playing as node
 use Rattle.world_rules.specs.Settings.{Setting, setting_of}
 use Rattle.world_rules.specs.Keys.{owner_key, setting_for}
 use Rattle.world_rules.specs.Worlds.{Host}
-use Rattle.world_host.specs.Holding.{HoldsHost, IsWorld, tag_of}
+use Rattle.world_host.specs.Holding.{HoldsHost, IsWorld, tag_of, tag_under}
 use Rattle.world_host.specs.Hosts.{HostState}
 
 pub group-is : (s : Setting) (g : Group) (ots : OtsKind) (tree : TreeKind) → IsWorld s g ots tree → s.group ≡ g
@@ -36,23 +37,26 @@ pub few-indexes : (s : Setting) (g : Group) (ots : OtsKind) (tree : TreeKind) �
 few-indexes s g ots tree w = subst (λ (n : ℕ). n ≤ 32768) (sym (indexes-are s g ots tree w)) (leaf_count_small tree)
 
 own-made : (g : Group) (ots : OtsKind) (tree : TreeKind) (s : Setting) (m : ℕ)
-    → setting_of (setting_for g ots tree s.correct s.liars) m ≡ node.setting_of g m ((setting_for g ots tree s.correct s.liars).key None) (owner_key g ots tree (Some m))
+    → setting_of (setting_for g ots tree s.correct s.liars) m ≡ node.setting_of g m (public_of (owner_key g ots tree None)) (owner_key g ots tree (Some m))
 unfolding setting_for node.setting_of
 own-made g ots tree s m = refl
 
+lms-is : (x y : PublicKey) → keys.Lms x ≡ keys.Lms y → x ≡ y
+lms-is x y e = cc
+
+key-made : (g : Group) (ots : OtsKind) (tree : TreeKind) (s : Setting) (who : Option ℕ) → (setting_for g ots tree s.correct s.liars).key who ≡ keys.Lms (public_of (owner_key g ots tree who))
+unfolding setting_for
+key-made g ots tree s who = refl
+
 -- A node with its own key is opened with what the world has for it.
-pub own-setting : (s : Setting) (g : Group) (ots : OtsKind) (tree : TreeKind) (m : ℕ) (authority : PublicKey) → IsWorld s g ots tree → authority ≡ s.key None
+pub own-setting : (s : Setting) (g : Group) (ots : OtsKind) (tree : TreeKind) (m : ℕ) (authority : PublicKey) → IsWorld s g ots tree → keys.Lms authority ≡ s.key None
     → setting_of s m ≡ node.setting_of g m authority (owner_key g ots tree (Some m))
 own-setting s g ots tree m authority w is =
-    let same : (setting_for g ots tree s.correct s.liars).key None ≡ authority = sym (is ∙ ap (λ (x : Setting). x.key None) w.made) in
+    let same : public_of (owner_key g ots tree None) ≡ authority = sym (lms-is authority (public_of (owner_key g ots tree None)) (is ∙ ap (λ (x : Setting). x.key None) w.made ∙ key-made g ots tree s None)) in
     ap (λ (x : Setting). setting_of x m) w.made ∙ own-made g ots tree s m ∙ ap (λ (a : PublicKey). node.setting_of g m a (owner_key g ots tree (Some m))) same
 
-key-made : (g : Group) (ots : OtsKind) (tree : TreeKind) (s : Setting) (m : ℕ) → (setting_for g ots tree s.correct s.liars).key (Some m) ≡ public_of (owner_key g ots tree (Some m))
-unfolding setting_for
-key-made g ots tree s m = refl
-
-pub own-public : (s : Setting) (g : Group) (ots : OtsKind) (tree : TreeKind) (m : ℕ) → IsWorld s g ots tree → s.key (Some m) ≡ public_of (owner_key g ots tree (Some m))
-own-public s g ots tree m w = ap (λ (x : Setting). x.key (Some m)) w.made ∙ key-made g ots tree s m
+pub own-public : (s : Setting) (g : Group) (ots : OtsKind) (tree : TreeKind) (m : ℕ) → IsWorld s g ots tree → s.key (Some m) ≡ keys.Lms (public_of (owner_key g ots tree (Some m)))
+own-public s g ots tree m w = ap (λ (x : Setting). x.key (Some m)) w.made ∙ key-made g ots tree s (Some m)
 
 own-ots : (g : Group) (ots : OtsKind) (tree : TreeKind) (m : ℕ) → (public_of (owner_key g ots tree (Some m))).ots ≡ ots
 unfolding public_of
@@ -64,14 +68,17 @@ own-tree g ots tree m = refl
 
 -- The mark of the store is that of the member's.
 pub tag-is : (s : Setting) (ots : OtsKind) (tree : TreeKind) (place : Host) (spent : List Spent) (x : HostState) → HoldsHost s ots tree place spent x → x.tag ≡ tag_of s x.member
-tag-is s ots tree place spent x h = h.tag ∙ ap (store_tag s.group) h.public
+tag-is s ots tree place spent x h = h.tag ∙ ap (tag_under s.group) h.public
+
+kept-half : (s : Setting) (g : Group) (ots : OtsKind) (tree : TreeKind) (place : Host) (spent : List Spent) (x : HostState) → IsWorld s g ots tree → HoldsHost s ots tree place spent x → x.public ≡ public_of (owner_key g ots tree (Some x.member))
+kept-half s g ots tree place spent x w h = lms-is x.public _ (h.public ∙ own-public s g ots tree x.member w)
 
 -- The public half has the kinds of the world's keys.
 pub ots-is : (s : Setting) (g : Group) (ots : OtsKind) (tree : TreeKind) (place : Host) (spent : List Spent) (x : HostState) → IsWorld s g ots tree → HoldsHost s ots tree place spent x → x.public.ots ≡ ots
-ots-is s g ots tree place spent x w h = ap (λ (k : PublicKey). k.ots) (h.public ∙ own-public s g ots tree x.member w) ∙ own-ots g ots tree x.member
+ots-is s g ots tree place spent x w h = ap (λ (k : PublicKey). k.ots) (kept-half s g ots tree place spent x w h) ∙ own-ots g ots tree x.member
 
 pub tree-is : (s : Setting) (g : Group) (ots : OtsKind) (tree : TreeKind) (place : Host) (spent : List Spent) (x : HostState) → IsWorld s g ots tree → HoldsHost s ots tree place spent x → x.public.tree ≡ tree
-tree-is s g ots tree place spent x w h = ap (λ (k : PublicKey). k.tree) (h.public ∙ own-public s g ots tree x.member w) ∙ own-tree g ots tree x.member
+tree-is s g ots tree place spent x w h = ap (λ (k : PublicKey). k.tree) (kept-half s g ots tree place spent x w h) ∙ own-tree g ots tree x.member
 
 -- The key that is kept is the member's.
 pub kept-key : (s : Setting) (g : Group) (ots : OtsKind) (tree : TreeKind) (place : Host) (spent : List Spent) (x : HostState) (k : Secret) → IsWorld s g ots tree → HoldsHost s ots tree place spent x → x.key ≡ Some k → k ≡ owner_key g ots tree (Some x.member)
@@ -113,7 +120,7 @@ made-public g ots tree public m (Ok k) is made =
     ap public_of own ∙ sym is
 
 -- A node's kit and key, as they are opened together.
-pub own-kit : (s : Setting) (g other : Group) (ots : OtsKind) (tree : TreeKind) (m me : ℕ) (authority : PublicKey) (key : Secret) → IsWorld s g ots tree → authority ≡ s.key None → other ≡ g → me ≡ m → key ≡ owner_key g ots tree (Some m)
+pub own-kit : (s : Setting) (g other : Group) (ots : OtsKind) (tree : TreeKind) (m me : ℕ) (authority : PublicKey) (key : Secret) → IsWorld s g ots tree → keys.Lms authority ≡ s.key None → other ≡ g → me ≡ m → key ≡ owner_key g ots tree (Some m)
     → setting_of s m ≡ node.setting_of other me authority key
 own-kit s g other ots tree m me authority key w is group_is me_is key_is =
     own-setting s g ots tree m authority w is

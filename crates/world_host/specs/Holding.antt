@@ -7,6 +7,8 @@ use Rattle.lms_ots.specs.declared.OtsKind.{OtsKind}
 use Rattle.lms_tree.specs.declared.TreeKind.{TreeKind}
 use Rattle.lms_tree.specs.declared.key.PublicKey.{PublicKey}
 use Rattle.lms_tree.specs.Lms.{public_of}
+use Rattle.records.specs.declared.keys.Key.{Key}
+use Rattle.records.specs.declared.keys.Key.TheVariants as keys
 use Rattle.secrets.specs.Secrets.{store_tag}
 use Rattle.signer.specs.Lives.{Spent}
 use Rattle.node_core.specs.Begins.{IsGroup}
@@ -27,7 +29,7 @@ pub record IsWorld (s : Setting) (g : Group) (ots : OtsKind) (tree : TreeKind) :
 
 -- The authority is the world's, and has certified all its members.
 pub record Certifies (s : Setting) (a : Certifying) : Type 0 where
-  pub key : a.key ≡ s.key None
+  pub key : keys.Lms a.key ≡ s.key None
   pub certified : recs_of a.certificates ≡ certificates s
 
 -- The member is a node of a world that the authority has certified, whose group's numbers are in their ranges, and this is
@@ -46,9 +48,13 @@ pub record IsPlaceOf (a : Certifying) (m : ℕ) (own : PublicKey) : Type 0 where
 abbrev pub made_place : Setting → Host
 made_place s = record { disk = made_disk (record { 0 = all_rings s.group.t }); past = []; current = None }
 
+-- the tag of the store of a key in the group
+abbrev pub tag_under : Group → Key → List ℕ
+tag_under g (keys.Lms key) = store_tag g key
+
 -- The tag of a member's store.
 abbrev pub tag_of : Setting → ℕ → List ℕ
-tag_of s m = store_tag s.group (s.key (Some m))
+tag_of s m = tag_under s.group (s.key (Some m))
 
 -- The node that runs is where the life is, over this disk.
 pub record HoldsLife (s : Setting) (e : Disk) (m : ℕ) (v : node.Kept) (life : Life) : Type 0 where
@@ -65,7 +71,7 @@ HoldsCurrent s e m _ _ = ⊥
 
 -- A node's place stands for this one, after its key has spent this.
 pub record HoldsHost (s : Setting) (ots : OtsKind) (tree : TreeKind) (place : Host) (spent : List Spent) (x : HostState) : Type 0 where
-  pub public : x.public ≡ s.key (Some x.member)
+  pub public : keys.Lms x.public ≡ s.key (Some x.member)
   pub key : IfSome x.key (λ k. k ≡ owner_key s.group ots tree (Some x.member))
   pub tag : x.tag ≡ store_tag s.group x.public
   pub disk : HoldsDisk x.tag s.indexes x.disk place.disk

@@ -4,6 +4,7 @@ ghost use Rattle.std.specs.Prelude.{◌≡◌, ◌++◌, ◌∷◌, [], All, map
 ghost use Rattle.lms_tree.specs.declared.key.PublicKey.{PublicKey as Public};
 ghost use Rattle.node_core.specs.Begins.{IsCheckedIn, IsKit};
 ghost use Rattle.records.specs.Signing.{IsChecked};
+ghost use Rattle.records.specs.declared.keys.Key.TheVariants as keys;
 ghost use Rattle.secrets.specs.Secrets.{nonce_seed as seed_of_life, world_secret as secret_in_world};
 ghost use Rattle.world_host.specs.Bodies.{is_among as is_one_of};
 ghost use Rattle.world_host.specs.Holding.{IsPlaceOf};
@@ -13,7 +14,7 @@ use ff_ids::{Group, MemberId};
 use fields::{Bytes, NoMemory};
 use lms_tree::PublicKey;
 use node_core::Kit;
-use records::{Body, Checked, Record};
+use records::{Body, Checked, Key, Record};
 use secrets::{nonce_seed, world_secret};
 use std::alloc::Global;
 use std::marker::Model;
@@ -30,6 +31,7 @@ impl Model for Authority {
     ghost use Rattle.std.specs.Prelude.{All};
     ghost use Rattle.node_core.specs.Begins.{IsCheckedIn};
     ghost use Rattle.records.specs.Signing.{IsChecked};
+    ghost use Rattle.records.specs.declared.keys.Key.TheVariants as keys;
     ghost use Rattle.world_host.specs.Certifying.{Certifying};
 
     ghost Value = { Certifying };
@@ -37,17 +39,12 @@ impl Model for Authority {
     ghost view = { λ a. record
         { group = a.group; key = a.key; certificates = a.certificates.items } };
 
-    ghost invariant = { λ a. All (IsCheckedIn a.group a.key) a.certificates.items
+    ghost invariant = { λ a. All (IsCheckedIn a.group (keys.Lms a.key)) a.certificates.items
         × All IsChecked a.certificates.items };
 }
 
 /// A copy of the certificate.
-fn copy_of(
-    alloc: Global,
-    group: &Group,
-    key: &PublicKey,
-    checked: &Checked,
-) -> Result<Checked, NoMemory>
+fn copy_of(alloc: Global, group: &Group, key: &Key, checked: &Checked) -> Result<Checked, NoMemory>
     requires { IsCheckedIn group.now key.now checked.now }
     ensures { IfOk result (λ copy. copy ≡ checked.now) }
 {
@@ -63,7 +60,7 @@ fn copy_of(
 fn copies_of(
     alloc: Global,
     group: &Group,
-    key: &PublicKey,
+    key: &Key,
     certificates: &[Checked],
 ) -> Result<Vec<Checked>, NoMemory>
     requires { All (IsCheckedIn group.now key.now) certificates.now }
@@ -90,7 +87,7 @@ impl Authority {
 
     /// Keeps one more certificate. Where memory is refused, those that were kept are kept still.
     pub fn keep(&mut self, checked: Checked) -> Result<(), NoMemory>
-        requires { IsCheckedIn self.old.group self.old.key checked }
+        requires { IsCheckedIn self.old.group (keys.Lms self.old.key) checked }
         ensures kept { OnOk result
             (self.new
             ≡ record self.old { certificates = self.old.certificates ++ checked ∷ [] }) }
@@ -128,16 +125,16 @@ impl Authority {
         ensures authority { IfOk result (λ kit. kit.authority ≡ self.now.key) }
         ensures certificates { IfOk result (λ kit. kit.certificates.items ≡ self.now.certificates) }
         ensures checked { IfOk result
-            (λ kit. All (IsCheckedIn kit.group kit.authority) kit.certificates.items) }
+            (λ kit. All (IsCheckedIn kit.group (keys.Lms kit.authority)) kit.certificates.items) }
         ensures verify { IfOk result (λ kit. All IsChecked kit.certificates.items) }
         ensures seed { IfOk result
             (λ kit. kit.nonce_seed
             ≡ seed_of_life (secret_in_world self.now.group.tag me) next) }
         ensures sound { (own : Public) → IsPlaceOf self.now me own
-            → IfOk result (λ kit. IsKit kit own) }
+            → IfOk result (λ kit. IsKit kit (keys.Lms own)) }
     {
         let secret = world_secret(&self.group.tag, me.get());
-        let certificates = copies_of(alloc, &self.group, &self.key, &self.certificates)?;
+        let certificates = copies_of(alloc, &self.group, &Key::Lms(self.key), &self.certificates)?;
         Ok(Kit {
             group: self.group,
             me,

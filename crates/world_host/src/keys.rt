@@ -11,7 +11,7 @@ use ff_ids::Group;
 use fields::{Bytes, NoMemory};
 use lms_ots::OtsKind;
 use lms_tree::{Leaves, PublicKey, SecretKey, Tree, TreeKind};
-use records::{Body, Checked, Record, signed_bytes};
+use records::{Body, Checked, Key, Record, signed_bytes};
 use secrets::{make_key, world_secret};
 use std::alloc::Global;
 use std::marker::Model;
@@ -111,6 +111,6 @@ impl SigningKey {
             body,
             signature: Bytes::from_vec(signature),
         };
-        Ok(Some(Checked::from_signed(group, &public, rec)))
+        Ok(Some(Checked::from_signed(group, &Key::Lms(public), rec)))
     }
 }

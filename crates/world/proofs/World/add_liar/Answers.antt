@@ -6,6 +6,8 @@ use Rattle.lms_tree.specs.declared.key.PublicKey.{PublicKey}
 use Rattle.lms_tree.specs.declared.secret.Secret.{Secret}
 use Rattle.lms_tree.specs.Leaves.{LeavesOf}
 use Rattle.lms_tree.specs.Lms.{public_of}
+use Rattle.records.specs.declared.keys.Key.TheVariants as keys
+use Rattle.signer.specs.Signing.{public_key}
 use Rattle.secrets.specs.Secrets.{key_from, world_secret}
 use Rattle.world.specs.declared.liar.Liar.{Liar}
 use Rattle.world.specs.contracts.World.{the_view}
@@ -30,11 +32,11 @@ returns-clause-ok c =
     let key : c.in_ok-key.key ≡ secret =
     c.in_ok-key.ensures ∙ ap (λ (g : Group). key_from ots tree (world_secret g.tag c.get.result)) group ∙ ap (λ (k : ℕ). key_from ots tree (world_secret v.authority.group.tag k)) c.get.ensures.value in
     let public : c.public.result ≡ public_of secret = c.public.ensures ∙ ap public_of key in
-    let certified : the_view c.self-2.inside ≡ with_certificate v c.args.signing.now m (public_of secret) =
-    c.self-2.view_is ∙ c.in_ok-add_certificate.ensures.ok ∙ ap (λ (k : PublicKey). with_certificate v c.args.signing.now m k) public in
+    let certified : the_view c.self-2.inside ≡ with_certificate v c.args.signing.now m (public_key secret) =
+    c.self-2.view_is ∙ c.in_ok-add_certificate.ensures.ok ∙ ap (λ (k : PublicKey). with_certificate v c.args.signing.now m (keys.Lms k)) public in
     let liars : c.push.new.self.items ≡ v.liars ++ c.open.result ∷ [] = c.in_ok-push.ensures.items ∙ ap (λ (z : Kept). z.liars ++ c.open.result ∷ []) certified in
     record {
       liar = c.open.result;
       is_new = record { member = c.open.ensures.member; key = c.open.ensures.key ∙ ap all_leaves key; signed = c.open.ensures.signed };
-      added = ap (λ (z : Kept). with_liars z c.push.new.self.items) certified ∙ ap (with_liars (with_certificate v c.args.signing.now m (public_of secret))) liars;
+      added = ap (λ (z : Kept). with_liars z c.push.new.self.items) certified ∙ ap (with_liars (with_certificate v c.args.signing.now m (public_key secret))) liars;
     }

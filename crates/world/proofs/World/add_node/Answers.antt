@@ -5,6 +5,8 @@ use Rattle.lms_tree.specs.declared.TreeKind.{TreeKind}
 use Rattle.lms_tree.specs.declared.key.PublicKey.{PublicKey}
 use Rattle.lms_tree.specs.declared.secret.Secret.{Secret}
 use Rattle.lms_tree.specs.Lms.{public_of}
+use Rattle.records.specs.declared.keys.Key.TheVariants as keys
+use Rattle.signer.specs.Signing.{public_key}
 use Rattle.secrets.specs.Secrets.{key_from, world_secret}
 use Rattle.world_rules.specs.Keys.{owner_key}
 use Rattle.world_host.specs.Hosts.{HostState}
@@ -28,8 +30,8 @@ returns-clause-ok c =
     let key : c.in_ok-key.key ≡ secret =
     c.in_ok-key.ensures ∙ ap (λ (g : Group). key_from ots tree (world_secret g.tag c.get.result)) group ∙ ap (λ (k : ℕ). key_from ots tree (world_secret v.authority.group.tag k)) c.get.ensures.value in
     let public : c.public.result ≡ public_of secret = c.public.ensures ∙ ap public_of key in
-    let certified : the_view c.self-2.inside ≡ with_certificate v c.args.signing.now m (public_of secret) =
-    c.self-2.view_is ∙ c.in_ok-add_certificate.ensures.ok ∙ ap (λ (k : PublicKey). with_certificate v c.args.signing.now m k) public in
+    let certified : the_view c.self-2.inside ≡ with_certificate v c.args.signing.now m (public_key secret) =
+    c.self-2.view_is ∙ c.in_ok-add_certificate.ensures.ok ∙ ap (λ (k : PublicKey). with_certificate v c.args.signing.now m (keys.Lms k)) public in
     let again : c.group-2.result.now ≡ v.authority.group = c.group-2.ensures ∙ ap (λ (z : Kept). z.authority.group) certified in
     let host : HostState = c.in_ok-host.host in
     let hosts : c.push.new.self.items ≡ v.hosts ++ host ∷ [] = c.in_ok-push.ensures.items ∙ ap (λ (z : Kept). z.hosts ++ host ∷ []) certified in
@@ -39,5 +41,5 @@ returns-clause-ok c =
       holds = λ s ots_now tree_now world own.
           c.in_ok-host.ensures.holds s ots_now tree_now (subst (λ (g : Group). IsWorld s g ots_now tree_now) (sym again) world)
           (key ∙ own ∙ ap (λ (g : Group). owner_key g ots_now tree_now (Some m)) (sym again));
-      added = ap (λ (z : Kept). with_hosts z c.push.new.self.items) certified ∙ ap (with_hosts (with_certificate v c.args.signing.now m (public_of secret))) hosts;
+      added = ap (λ (z : Kept). with_hosts z c.push.new.self.items) certified ∙ ap (with_hosts (with_certificate v c.args.signing.now m (public_key secret))) hosts;
     }

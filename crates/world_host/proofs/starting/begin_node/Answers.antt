@@ -3,10 +3,11 @@ use Rattle.ff_ids.specs.declared.Group.{Group}
 use Rattle.lms_tree.specs.declared.secret.Secret.{Secret}
 use Rattle.lms_tree.specs.Leaves.{index_count}
 use Rattle.lms_tree.specs.Lms.{public_of}
+use Rattle.records.specs.declared.keys.Key.TheVariants as keys
 use Rattle.epoch_store.specs.declared.Stored.{Stored}
 use Rattle.epoch_store.specs.Calls.{StoreState}
 use Rattle.secrets.specs.Secrets.{nonce_seed, world_secret}
-use Rattle.signer.specs.Signing.{SignerState}
+use Rattle.signer.specs.Signing.{SignerState, public_key}
 use Rattle.node_core.specs.Begins.{IsKit}
 use Rattle.node_core.specs.declared.kit.Kit.{Kit}
 use Rattle.node_core.specs.Playing as node
@@ -20,13 +21,13 @@ use Rattle.world_host.proofs.starting.begin_node.Goals as goal
 pub start-requires-clause-kit : goal.start-requires-clause-kit
 start-requires-clause-kit c =
     let key : c.open_signer-signer.result.key ≡ c.args.key = ap (λ (x : SignerState). x.key) c.open_signer-signer.ensures in
-    subst (λ (k : Secret). IsKit c.in_ok-kit.kit (public_of k)) (sym key) (c.in_ok-kit.ensures.sound (public_of c.args.key) c.requires.place)
+    subst (λ (k : Secret). IsKit c.in_ok-kit.kit (public_key k)) (sym key) (c.in_ok-kit.ensures.sound (public_of c.args.key) c.requires.place)
 
 pub returns-clause-going : goal.returns-clause-going
 returns-clause-going c =
     let kit : Kit = c.in_ok-kit.kit in
     let signer : SignerState = c.open_signer-signer.result in
-    start-going (node.setting_of kit.group kit.me kit.authority signer.key) (public_of signer.key) kit.nonce_seed (recs_of kit.certificates.items) signer.state c.args.events.now c.start.new.events c.start.result c.start_of.result
+    start-going (node.setting_of kit.group kit.me kit.authority signer.key) (public_key signer.key) kit.nonce_seed (recs_of kit.certificates.items) signer.state c.args.events.now c.start.new.events c.start.result c.start_of.result
     c.start.ensures.starts c.start.ensures.vouchable c.start.ensures.going c.start_of.ensures
 
 pub returns-clause-begins : goal.returns-clause-begins
@@ -44,8 +45,8 @@ returns-clause-begins c = λ s ots tree tag e w certified key_is store_is mark h
     let leaves : index_count signer.key ≡ s.indexes = ap index_count key ∙ sym (indexes-are s g ots tree w) in
     let seeded : kit.nonce_seed ≡ s.nonces m e.state.next = kit_is.seed ∙ ap (λ (k : Stored). nonce_seed (world_secret g.tag m) k.next) stored ∙ sym (nonces-are s g ots tree m e.state.next w) in
     answer-is s tag m e c.start.new.disk c.start.new.events c.start.result c.start_of.result
-    (begins-by s g kit.group ots tree m kit.me tag kit.nonce_seed (public_of signer.key) (recs_of kit.certificates.items) e c.args.disk.now c.start.new.disk signer (node.setting_of kit.group kit.me kit.authority signer.key)
+    (begins-by s g kit.group ots tree m kit.me tag kit.nonce_seed (public_key signer.key) (recs_of kit.certificates.items) e c.args.disk.now c.start.new.disk signer (node.setting_of kit.group kit.me kit.authority signer.key)
     c.args.events.now c.start.new.events c.start.result w h seeded (ap recs_of kit_is.certificates ∙ certified.certified) none kit_is.group kit_is.me state seat leaves
-    (own-kit s g kit.group ots tree m kit.me kit.authority signer.key w (kit_is.authority ∙ certified.key) kit_is.group kit_is.me key)
+    (own-kit s g kit.group ots tree m kit.me kit.authority signer.key w (ap keys.Lms kit_is.authority ∙ certified.key) kit_is.group kit_is.me key)
     c.start.ensures.starts c.start.ensures.vouchable c.start.ensures.going c.start.ensures.closed c.start.ensures.seat mark c.start.ensures.cause c.start.ensures.puts)
     c.start_of.ensures

@@ -3,6 +3,7 @@ use Rattle.std.specs.Prelude.{All}
 use Rattle.ff_ids.specs.declared.TheConstants.{MEMBERS}
 use Rattle.node_core.specs.Begins.{IsCheckedIn}
 use Rattle.records.specs.Signing.{IsChecked}
+use Rattle.records.specs.declared.keys.Key.TheVariants as keys
 use Rattle.world_host.specs.Certifying.{Certifying}
 use Rattle.world_host.proofs.KitLemmas.{kit-sound}
 use Rattle.world_host.proofs.authority.Authority.kit.Goals as goal
@@ -21,5 +22,5 @@ returns-clause-sound c = λ own place.
       certificates = c.in_ok-certificates.certificates;
       nonce_seed = c.nonce_seed.result;
     }) low place group refl same
-    (subst (All (IsCheckedIn c.self.inside.group c.self.inside.key)) (sym copied) c.self.invariant.0)
+    (subst (All (IsCheckedIn c.self.inside.group (keys.Lms c.self.inside.key))) (sym copied) c.self.invariant.0)
     (subst (All IsChecked) (sym copied) c.self.invariant.1)

@@ -8,6 +8,7 @@ use Rattle.ff_ids.specs.Masks.{all_rings}
 use Rattle.lms_tree.specs.declared.key.PublicKey.{PublicKey}
 use Rattle.lms_tree.specs.Kinds.{leaf_count}
 use Rattle.lms_tree.specs.Lms.{public_of}
+use Rattle.records.specs.declared.keys.Key.TheVariants as keys
 use Rattle.secrets.specs.Secrets.{store_tag}
 use Rattle.world_host.specs.Held.{HoldsDisk}
 use Rattle.world_rules.specs.Disks.{made_disk}
@@ -32,7 +33,7 @@ returns-clause-holds c = λ s ots tree w key_is.
     let mask : c.all_rings.result ≡ record { 0 = all_rings s.group.t } = c.all_rings.ensures.value ∙ ap (λ (x : Group). record { 0 = all_rings x.t }) (sym same) in
     let made = made-so c.store_tag-tag.result (codes "store") c.leaf_count.result c.in_ok-disk.disk c.make.new.disk c.all_rings.result c.make.result c.in_ok-disk.ensures long c.all_rings.ensures.small (sym c.if-is_err.ensures.value) c.make.ensures.follows in
     record {
-      public = public ∙ sym (own-public s g ots tree c.args.member w);
+      public = ap keys.Lms public ∙ sym (own-public s g ots tree c.args.member w);
       key = key_is ∙ ap (λ (x : Group). owner_key x ots tree (Some c.args.member)) (sym same);
       tag = c.store_tag-tag.ensures ∙ ap (λ (x : Group). store_tag x c.public-public.result) (sym same);
       disk = subst (λ (n : ℕ). HoldsDisk c.store_tag-tag.result n c.make.new.disk (made_disk (record { 0 = all_rings s.group.t }))) leaves
