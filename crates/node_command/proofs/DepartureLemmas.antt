@@ -14,7 +14,7 @@ use Rattle.ff_ids.specs.Notes.{is_leaving}
 use Rattle.ff_ids.specs.Steps.{Event, Notes, Accuses, after_note, step, unless_fault}
 use Rattle.ff_ids.specs.Views.{State}
 use Rattle.life_laws.proofs.Lists.{In, Contains-from_In, In-from_filter}
-use Rattle.lms_tree.specs.declared.key.PublicKey.{PublicKey}
+use Rattle.records.specs.declared.keys.Key.{Key}
 use Rattle.records.specs.declared.Body.{Body}
 use Rattle.records.specs.declared.Body.TheVariants.{Certificate, Note, Accusation}
 use Rattle.records.specs.declared.Record.{Record}
@@ -228,7 +228,7 @@ own-moment : (s : Setting) (n : Node) (at : ℕ) → (after s.group (opening [])
 unfolding state_of
 own-moment s n at is = is
 
-itself : (s : Setting) (own : PublicKey) (start : ServeState) (acts before behind : List Act) (at m : ℕ) → OwnSignaturesVerify s own → KeepsKey s own (node_behind s start before) → acts ≡ before ++ Calls Leaves ∷ behind
+itself : (s : Setting) (own : Key) (start : ServeState) (acts before behind : List Act) (at m : ℕ) → OwnSignaturesVerify s own → KeepsKey s own (node_behind s start before) → acts ≡ before ++ Calls Leaves ∷ behind
     → In (left s (node_behind s start before)).told (removal at m) → LeavesItself s start acts at m
 itself s own start acts before behind at m sign v split i =
     let n = node_behind s start before in
@@ -252,7 +252,7 @@ itself s own start acts before behind at m sign v split i =
 -- ## A removal of a course
 
 -- What a life begins with, so that each of its removals has its cause.
-pub record IsRooted (s : Setting) (own : PublicKey) (start : ServeState) : Type 0 where
+pub record IsRooted (s : Setting) (own : Key) (start : ServeState) : Type 0 where
   pub some : 1 ≤ s.group.t
   pub sign : OwnSignaturesVerify s own
   pub vouched : KeepsKey s own start.node
@@ -266,14 +266,14 @@ accuses-stay m a (inr note) = apart note.note note.is
     apart : (n : NoteBody) → Accuses a ≡ Notes n → ⊥
     apart n e = cc
 
-own-behind : (s : Setting) (own : PublicKey) (start : ServeState) (acts : List Act) → IsRooted s own start → KeepsOwnNote s (node_behind s start acts)
+own-behind : (s : Setting) (own : Key) (start : ServeState) (acts : List Act) → IsRooted s own start → KeepsOwnNote s (node_behind s start acts)
 own-behind s own start acts f = node-served s (KeepsOwnNote s) (λ n i h. own-call s n i f.some h) acts start f.kept
 
 -- at a tick
-away : (s : Setting) (own : PublicKey) (start : ServeState) (acts done later : List Act) (at m : ℕ) → IsRooted s own start → acts ≡ done ++ Calls Ticks ∷ later → TicksTell s (node_behind s start done) (removal at m) → Departs s start acts at m
+away : (s : Setting) (own : Key) (start : ServeState) (acts done later : List Act) (at m : ℕ) → IsRooted s own start → acts ≡ done ++ Calls Ticks ∷ later → TicksTell s (node_behind s start done) (removal at m) → Departs s start acts at m
 away s own start acts done later at m f split told = AtTick (removes s own start acts done later at m f.sign f.vouched f.unaccused split (ticks-away s (node_behind s start done) at m told))
 
-pub called-departs : (s : Setting) (own : PublicKey) (start : ServeState) (acts done later : List Act) (i : Input) (at m : ℕ) → IsRooted s own start → acts ≡ done ++ Calls i ∷ later → In (call_of s (node_behind s start done) i).told (removal at m) → Departs s start acts at m
+pub called-departs : (s : Setting) (own : Key) (start : ServeState) (acts done later : List Act) (i : Input) (at m : ℕ) → IsRooted s own start → acts ≡ done ++ Calls i ∷ later → In (call_of s (node_behind s start done) i).told (removal at m) → Departs s start acts at m
 called-departs s own start acts done later (Delivers bytes) at m f split among =
     let n = node_behind s start done in
     let Q = Leavers s n (records_in (read_of bytes)) m in
@@ -286,7 +286,7 @@ abbrev IsNone : List Event → Event → Type 0
 IsNone life x = ⊥
 
 -- the same of a call in which the disk fails
-pub cut-departs : (s : Setting) (own : PublicKey) (start : ServeState) (acts done later : List Act) (i : Input) (c : Call) (at m : ℕ) → IsRooted s own start → acts ≡ done ++ Calls i ∷ later → IsCut s (node_behind s start done) i c → In c.told (removal at m)
+pub cut-departs : (s : Setting) (own : Key) (start : ServeState) (acts done later : List Act) (i : Input) (c : Call) (at m : ℕ) → IsRooted s own start → acts ≡ done ++ Calls i ∷ later → IsCut s (node_behind s start done) i c → In c.told (removal at m)
     → Departs s start acts at m
 cut-departs s own start acts done later i c at m f split cut among = by i split (called s n i (Some cut.put)) (called-so_far s n i (Some cut.put)) (subst (λ (x : Call). In x.told (removal at m)) cut.is among)
   where

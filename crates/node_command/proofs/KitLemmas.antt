@@ -18,12 +18,17 @@ use Rattle.sha2.proofs.Facts256.{length-sha256}
 use Rattle.ff_ids.specs.declared.Group.{Group}
 use Rattle.lms_tree.specs.declared.key.PublicKey.{PublicKey}
 use Rattle.lms_tree.specs.declared.secret.Secret.{Secret}
-use Rattle.lms_tree.specs.Lms.{key_bytes, public_of}
+use Rattle.lms_tree.specs.Lms as lms
+use Rattle.lms_tree.specs.Lms.{public_of}
 use Rattle.records.specs.declared.Body.{Body}
 use Rattle.records.specs.declared.Body.TheVariants.{Certificate}
 use Rattle.records.specs.declared.CertBody.{CertBody}
 use Rattle.records.specs.declared.Record.{Record}
+use Rattle.records.specs.declared.keys.Key.{Key}
+use Rattle.records.specs.declared.keys.Key.TheVariants as key_kinds
+use Rattle.records.specs.Keys.{AreKey, HasParts, IsKey, key_bytes}
 use Rattle.records.specs.Signing.{CheckedRecord, IsChecked}
+use Rattle.signer.specs.Signing.{public_key}
 use Rattle.line_text.specs.Answers.{Progress, moved}
 use Rattle.line_text.specs.Shapes.{Values}
 use Rattle.line_text.specs.Tables.{SpellsParts}
@@ -75,7 +80,7 @@ record IsListed (group : Group) (authority : PublicKey) (named : List Bool) (x :
   cert : CertBody
   body : x.rec.body ≡ Certificate cert
   named_so : is_named named cert.member ≡ true
-  checked : IsCheckedIn group authority x
+  checked : IsCheckedIn group (key_kinds.Lms authority) x
 
 listed-more : (group : Group) (authority : PublicKey) (named : List Bool) (m : ℕ) (x : CheckedRecord) → m < length named → IsListed group authority named x → IsListed group authority (slice_set named m true) x
 listed-more group authority named m x few h = record {
@@ -116,11 +121,11 @@ apart-append group authority named c x (y ∷ xs) body new listed apart =
       apart-append group authority named c x xs body new listed.1 apart.1,
     )
 
-keys-append : (me : ℕ) (k : PublicKey) (c : CertBody) (x : CheckedRecord) (xs : List CheckedRecord) → AllByRecursion (HasKey me k) (recs_of xs) → HasKey me k x.rec → AllByRecursion (HasKey me k) (recs_of (xs ++ x ∷ []))
+keys-append : (me : ℕ) (k : Key) (c : CertBody) (x : CheckedRecord) (xs : List CheckedRecord) → AllByRecursion (HasKey me k) (recs_of xs) → HasKey me k x.rec → AllByRecursion (HasKey me k) (recs_of (xs ++ x ∷ []))
 keys-append me k c x xs all one = subst (AllByRecursion (HasKey me k)) (sym (recs-append xs x)) (each-append (HasKey me k) (recs_of xs) x.rec all one)
 
 -- those before the own certificate are of others
-none-own : (group : Group) (authority : PublicKey) (named : List Bool) (c : CertBody) (me : ℕ) (k : PublicKey) (xs : List CheckedRecord) → c.member ≡ me → is_named named c.member ≡ false
+none-own : (group : Group) (authority : PublicKey) (named : List Bool) (c : CertBody) (me : ℕ) (k : Key) (xs : List CheckedRecord) → c.member ≡ me → is_named named c.member ≡ false
     → AllByRecursion (IsListed group authority named) xs → AllByRecursion (HasKey me k) (recs_of xs)
 none-own group authority named c me k [] own new listed = tt
 none-own group authority named c me k (x ∷ xs) own new listed = (
@@ -131,18 +136,13 @@ none-own group authority named c me k (x ∷ xs) own new listed = (
   none-own group authority named c me k xs own new listed.1,
 )
 
--- the bytes of a key are one key's
-record IsLong (k : PublicKey) : Type 0 where
-  id_long : length k.id ≡ 16
-  root_long : length k.root ≡ 32
-
 -- The own certificate, where there is one, is among them with this key.
-record IsOwn (me : ℕ) (k : PublicKey) (xs : List CheckedRecord) : Type 0 where
+record IsOwn (me : ℕ) (k : Key) (xs : List CheckedRecord) : Type 0 where
   among : list_any (λ r. is_certificate_for me r.body) (recs_of xs) ≡ true
   keys : AllByRecursion (HasKey me k) (recs_of xs)
-  long : IsLong k
+  long : IsKey k
 
-abbrev HasOwn : ℕ → Option PublicKey → List CheckedRecord → Type 0
+abbrev HasOwn : ℕ → Option Key → List CheckedRecord → Type 0
 HasOwn me None xs = Unit {0}
 HasOwn me (Some k) xs = IsOwn me k xs
 
@@ -156,8 +156,8 @@ any-append me x xs b e =
     let test : Record → Bool = λ r. is_certificate_for me r.body in
     ap (list_any test) (recs-append xs x) ∙ list_any-append test (recs_of xs) (x.rec ∷ []) ∙ ap (λ q. list_any test (recs_of xs) || q) (or-none (test x.rec)) ∙ e
 
-own-append : (group : Group) (authority : PublicKey) (named : List Bool) (me : ℕ) (own : Option PublicKey) (c : CertBody) (x : CheckedRecord) (xs : List CheckedRecord) → x.rec.body ≡ Certificate c → is_named named c.member ≡ false
-    → IsLong c.key → AllByRecursion (IsListed group authority named) xs → HasOwn me own xs → HasOwn me (cond (c.member == me) (Some c.key) own) (xs ++ x ∷ [])
+own-append : (group : Group) (authority : PublicKey) (named : List Bool) (me : ℕ) (own : Option Key) (c : CertBody) (x : CheckedRecord) (xs : List CheckedRecord) → x.rec.body ≡ Certificate c → is_named named c.member ≡ false
+    → IsKey c.key → AllByRecursion (IsListed group authority named) xs → HasOwn me own xs → HasOwn me (cond (c.member == me) (Some c.key) own) (xs ++ x ∷ [])
 own-append group authority named me own c x xs body new long listed h = either (c.member == me) refl
   where
     last-true : (b : Bool) → is_certificate_for me x.rec.body ≡ true → (b || is_certificate_for me x.rec.body) ≡ true
@@ -167,13 +167,13 @@ own-append group authority named me own c x xs body new long listed h = either (
     is-own : x.rec.body ≡ Certificate c → is_certificate_for me x.rec.body ≡ (c.member == me)
     is-own e = rw e refl
 
-    other-key : (k : PublicKey) → (c.member == me) ≡ false → HasKey me k x.rec
+    other-key : (k : Key) → (c.member == me) ≡ false → HasKey me k x.rec
     other-key k e = λ d it member.
         let same : Certificate c ≡ Certificate d = sym body ∙ it in
         let m : c.member ≡ d.member = cc in
         absurd (grind (e, m, member, arith))
 
-    kept : (o : Option PublicKey) → (c.member == me) ≡ false → HasOwn me o xs → HasOwn me o (xs ++ x ∷ [])
+    kept : (o : Option Key) → (c.member == me) ≡ false → HasOwn me o xs → HasOwn me o (xs ++ x ∷ [])
     kept None e h = tt
     kept (Some k) e h = record { among = any-append me x xs true (rw h.among refl); keys = keys-append me k c x xs h.keys (other-key k e); long = h.long }
 
@@ -189,7 +189,7 @@ own-append group authority named me own c x xs body new long listed h = either (
 
 -- ## Keys
 
-long-public : (k : Secret) → length k.id ≡ 16 → IsLong (public_of k)
+long-public : (k : Secret) → length k.id ≡ 16 → IsKey (public_key k)
 unfolding public_of
 long-public k long = record { id_long = long; root_long = length-node k 1 }
 
@@ -200,9 +200,16 @@ id-long secret = length-take 16 (sha256 (codes "FFLMSI" ++ secret)) ∙ grind (l
 abbrev kept : PublicKey → Result PublicKey KeyFault
 kept k = Ok k
 
-same-key : (a b : PublicKey) → IsLong a → IsLong b → key_bytes a ≡ key_bytes b → a ≡ b
-same-key a b x y e =
+lms-same : (a b : PublicKey) → HasParts a → HasParts b → lms.key_bytes a ≡ lms.key_bytes b → a ≡ b
+lms-same a b x y e =
     let same : kept a ≡ kept b = sym (key_in-key_bytes a x.id_long x.root_long) ∙ ap key_in e ∙ key_in-key_bytes b y.id_long y.root_long in cc
+
+-- the bytes of a key are one key's
+same-key : (a b : Key) → IsKey a → IsKey b → key_bytes a ≡ key_bytes b → a ≡ b
+same-key (key_kinds.Lms a) (key_kinds.Lms b) x y e = ap key_kinds.Lms (lms-same a b x y e)
+
+long-key : (bytes : List ℕ) (k : Key) → AreKey bytes k → IsKey k
+long-key bytes (key_kinds.Lms k) are = record { id_long = are.id; root_long = are.root }
 
 -- ## What has been read, and what it sets up
 
@@ -222,7 +229,7 @@ numbers g h = record {
 record IsOwner (owner : Owner) (own : Own) : Type 0 where
   group : shared.IsGroup owner.group
   member : owner.member ≡ own.member
-  key : owner.key ≡ public_of own.key
+  key : owner.key ≡ public_key own.key
   long : length own.key.id ≡ 16
 
 record FitsOwned (owner : Owner) (u : SetUp) : Type 0 where
@@ -235,7 +242,7 @@ record FitsAuthorized (owner : Owner) (authority : PublicKey) (u : SetUp) : Type
   is : u ≡ record { group = Some owner.group; own = Some own; authority = Some authority; millis = None; certificates = [] }
   owner_is : IsOwner owner own
 
-record FitsBody (owner : Owner) (authority : PublicKey) (named : List Bool) (ownkey : Option PublicKey) (u : SetUp) : Type 0 where
+record FitsBody (owner : Owner) (authority : PublicKey) (named : List Bool) (ownkey : Option Key) (u : SetUp) : Type 0 where
   own : Own
   millis : ℕ
   certificates : List CheckedRecord
@@ -257,10 +264,10 @@ pub record IsUp (u : SetUp) : Type 0 where
   pub is : u ≡ record { group = Some group; own = Some own; authority = Some authority; millis = Some millis; certificates = certificates }
   pub numbers : IsGroup group
   pub pace : 1 ≤ millis
-  pub checked : All (IsCheckedIn group authority) certificates
+  pub checked : All (IsCheckedIn group (key_kinds.Lms authority)) certificates
   pub apart : AreApart (recs_of certificates)
   pub among : list_any (λ r. is_certificate_for own.member r.body) (recs_of certificates) ≡ true
-  pub keys : AllByRecursion (HasKey own.member (public_of own.key)) (recs_of certificates)
+  pub keys : AllByRecursion (HasKey own.member (public_key own.key)) (recs_of certificates)
 
 record FitsGroup (g : Group) (u : SetUp) : Type 0 where
   is : u ≡ record nothing_up { group = Some g }
@@ -276,7 +283,7 @@ Fits (kit.Authorized owner authority) u = FitsAuthorized owner authority u
 Fits (kit.Body owner authority named ownkey) u = FitsBody owner authority named ownkey u
 Fits kit.Ended u = IsUp u
 
-own-up : (g : Group) (kinds : Kinds) (m : ℕ) (secret : List ℕ) (own_key : Secret) (u : SetUp) → key_from kinds.ots kinds.tree secret ≡ own_key → FitsGroup g u → FitsOwned (record { group = g; member = m; key = public_of own_key }) (sets u (lines.Own m secret own_key))
+own-up : (g : Group) (kinds : Kinds) (m : ℕ) (secret : List ℕ) (own_key : Secret) (u : SetUp) → key_from kinds.ots kinds.tree secret ≡ own_key → FitsGroup g u → FitsOwned (record { group = g; member = m; key = public_key own_key }) (sets u (lines.Own m secret own_key))
 own-up g kinds m secret own_key u made fits = record {
   own = record { member = m; secret = secret; key = own_key };
   is = ap (λ (v : SetUp). sets v (lines.Own m secret own_key)) fits.is;
@@ -289,20 +296,20 @@ record IsNewCert (group : Group) (authority : PublicKey) (named : List Bool) (x 
   line : x ≡ checked_as group authority cert x.rec.signature
   member_high : cert.member ≤ LAST_MEMBER
   new : is_named named cert.member ≡ false
-  long : IsLong cert.key
+  long : IsKey cert.key
 
-cert-values : (owner : Owner) (authority : PublicKey) (named : List Bool) (ownkey : Option PublicKey) (ws : List (List ℕ)) (x : CheckedRecord) (b : Body) → SpellsParts kit_table (kit.Body owner authority named ownkey) ws (lines.Cert x) (cert_parts b x.rec.signature) → IsNewCert owner.group authority named x
+cert-values : (owner : Owner) (authority : PublicKey) (named : List Bool) (ownkey : Option Key) (ws : List (List ℕ)) (x : CheckedRecord) (b : Body) → SpellsParts kit_table (kit.Body owner authority named ownkey) ws (lines.Cert x) (cert_parts b x.rec.signature) → IsNewCert owner.group authority named x
 cert-values owner authority named ownkey ws x (Certificate c) h =
     let vs : Values (fields words.Cert) = (c.member, (c.port, (c.key, (x.rec.signature, tt)))) in
     let range = all-in_range (fields words.Cert) h.args vs h.spells in
     let made : lines.Cert (checked_as owner.group authority c x.rec.signature) ≡ lines.Cert x = h.made in
-    let key = range.1.1.0 in
+    let key : (bytes : List ℕ) × AreKey bytes c.key = range.1.1.0 in
     record {
       cert = c;
       line = cc;
       member_high = range.0.1;
       new = (cert-whole owner.group authority named vs h.whole).new;
-      long = record { id_long = key.1.id; root_long = key.1.root };
+      long = long-key key.0 c.key key.1;
     }
 cert-values owner authority named ownkey ws x _ h = absurd (let e = h.made in cc)
 
@@ -311,7 +318,7 @@ no-cert : (form : KitText) (ws : List (List ℕ)) (x : CheckedRecord) (b : Body)
 no-cert form ws x (Certificate c) none h = false≢true (sym none ∙ h.stands)
 no-cert form ws x _ none h = absurd (let e = h.made in cc)
 
-body-up : (owner : Owner) (authority : PublicKey) (named : List Bool) (ownkey : Option PublicKey) (x : CheckedRecord) (u : SetUp) (h : IsNewCert owner.group authority named x) → FitsBody owner authority named ownkey u
+body-up : (owner : Owner) (authority : PublicKey) (named : List Bool) (ownkey : Option Key) (x : CheckedRecord) (u : SetUp) (h : IsNewCert owner.group authority named x) → FitsBody owner authority named ownkey u
     → FitsBody owner authority (slice_set named h.cert.member true) (cond (h.cert.member == owner.member) (Some h.cert.key) ownkey) (sets u (lines.Cert x))
 body-up owner authority named ownkey x u h fits =
     let body : x.rec.body ≡ Certificate h.cert = ap (λ (y : CheckedRecord). y.rec.body) h.line in
@@ -336,17 +343,17 @@ body-up owner authority named ownkey x u h fits =
       found = own-append owner.group authority named owner.member ownkey h.cert x fits.certificates body h.new h.long fits.listed fits.found;
     }
 
-certified : (owner : Owner) (authority : PublicKey) (named : List Bool) (ownkey : Option PublicKey) (x : CheckedRecord) (u : SetUp) → IsNewCert owner.group authority named x → FitsBody owner authority named ownkey u
+certified : (owner : Owner) (authority : PublicKey) (named : List Bool) (ownkey : Option Key) (x : CheckedRecord) (u : SetUp) → IsNewCert owner.group authority named x → FitsBody owner authority named ownkey u
     → Fits (after (kit.Body owner authority named ownkey) (lines.Cert x)) (sets u (lines.Cert x))
 certified owner authority named ownkey x u h fits =
     subst (λ (b : Body). Fits (certified_by b (kit.Body owner authority named ownkey)) (sets u (lines.Cert x))) (sym (ap (λ (y : CheckedRecord). y.rec.body) h.line))
     (body-up owner authority named ownkey x u h fits)
 
-ended-up : (owner : Owner) (authority : PublicKey) (named : List Bool) (ownkey : Option PublicKey) (u : SetUp) → IsOwned owner.key ownkey → FitsBody owner authority named ownkey u → IsUp u
+ended-up : (owner : Owner) (authority : PublicKey) (named : List Bool) (ownkey : Option Key) (u : SetUp) → IsOwned owner.key ownkey → FitsBody owner authority named ownkey u → IsUp u
 ended-up owner authority named None u owned fits = absurd owned
 ended-up owner authority named (Some k) u owned fits =
     let o = fits.owner_is in
-    let same : k ≡ public_of fits.own.key = same-key k (public_of fits.own.key) fits.found.long (long-public fits.own.key o.long) (owned ∙ ap key_bytes o.key) in
+    let same : k ≡ public_key fits.own.key = same-key k (public_key fits.own.key) fits.found.long (long-public fits.own.key o.long) (owned ∙ ap key_bytes o.key) in
     record {
       group = owner.group;
       own = fits.own;
@@ -356,11 +363,11 @@ ended-up owner authority named (Some k) u owned fits =
       is = fits.is;
       numbers = numbers owner.group o.group;
       pace = fits.pace;
-      checked = all-of (IsCheckedIn owner.group authority) fits.certificates (each-as (IsListed owner.group authority named) (IsCheckedIn owner.group authority) fits.certificates (λ x h. h.checked) fits.listed);
+      checked = all-of (IsCheckedIn owner.group (key_kinds.Lms authority)) fits.certificates (each-as (IsListed owner.group authority named) (IsCheckedIn owner.group (key_kinds.Lms authority)) fits.certificates (λ x h. h.checked) fits.listed);
       apart = fits.apart;
       among = subst (λ (m : ℕ). list_any (λ r. is_certificate_for m r.body) (recs_of fits.certificates) ≡ true) o.member fits.found.among;
-      keys = subst (λ (m : ℕ). AllByRecursion (HasKey m (public_of fits.own.key)) (recs_of fits.certificates)) o.member
-          (subst (λ (q : PublicKey). AllByRecursion (HasKey owner.member q) (recs_of fits.certificates)) same fits.found.keys);
+      keys = subst (λ (m : ℕ). AllByRecursion (HasKey m (public_key fits.own.key)) (recs_of fits.certificates)) o.member
+          (subst (λ (q : Key). AllByRecursion (HasKey owner.member q) (recs_of fits.certificates)) same fits.found.keys);
     }
 
 -- One line more.

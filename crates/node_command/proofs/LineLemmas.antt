@@ -11,7 +11,7 @@ use Rattle.ff_ids.specs.Texts.{accusation_text, fault_text}
 use Rattle.hex.specs.Hex.{encode_lower}
 use Rattle.life_events.specs.declared.event.What.TheVariants as in_life
 use Rattle.life_laws.proofs.Lists.{All-at}
-use Rattle.lms_tree.specs.Lms.{key_bytes}
+use Rattle.records.specs.Keys.{key_bytes}
 use Rattle.records.specs.declared.Body.{Body}
 use Rattle.records.specs.declared.Body.TheVariants.{Certificate, Note, Accusation}
 use Rattle.journal.specs.declared.event.Event as journal

@@ -9,13 +9,12 @@ use Rattle.epoch_store.specs.Calls.{HoldsStore, IsNotTaken, OnRead, OpensAs, Set
 use Rattle.epoch_store.specs.Store.{IsSettled, StoreAt}
 use Rattle.journal.specs.declared.event.Event as journal
 use Rattle.lms_tree.specs.Leaves.{index_count}
-use Rattle.lms_tree.specs.Lms.{public_of}
 use Rattle.ports.specs.Count.{counted}
 use Rattle.ports.specs.Disk.{Fails, Moment, stays}
 use Rattle.ports.proofs.SinceLemmas.{Since-trans, Since-weaken}
 use Rattle.secrets.specs.Secrets.{nonce_seed}
 use Rattle.signer.specs.Lives.{EndsLives, EndsNow, EndsWithin, IsLiving, Spent}
-use Rattle.signer.specs.Signing.{SignerState}
+use Rattle.signer.specs.Signing.{SignerState, public_key}
 use Rattle.signer.proofs.LivingLemmas.{kept_by_opening, nothing_spent}
 use Rattle.signer.proofs.OnwardLemmas.{within-none}
 use Rattle.node_rules.specs.Nodes.{Setting}
@@ -123,7 +122,7 @@ fronts-so m st old mid new later spent h begun key = λ before spent_before ends
 
 pub started-so : (m : Member) (st : StoreState) (kept : Kept) (told : List journal.Event) (old mid new : OfDisk) → Opened m st old mid → Begun m st mid.moments → new.faults ≡ mid.faults
     → Starts (setting_for m) (nonce_seed m.own.secret st.state.next) (recs_of m.certificates.items) st.state kept [] told
-    → IsVouchable (setting_for m) (public_of m.own.key) (recs_of m.certificates.items) st.state → kept.ended ≡ false → kept.signer.closed ≡ false
+    → IsVouchable (setting_for m) (public_key m.own.key) (recs_of m.certificates.items) st.state → kept.ended ≡ false → kept.signer.closed ≡ false
     → SpendsIn {T = Kept} (Ok kept) (signer_of m st) kept.signer mid.moments new.moments [] told → Begins m old new told (Ok kept)
 started-so m st kept told old mid new h begun faults starts vouchable going unclosed spends =
     let told_is : told ≡ (start_of m st.state).told = starts.told in
@@ -189,7 +188,7 @@ begun-as m st mid signer is begins = λ tag before spent moments settled ends. s
 pub started-from : (m : Member) (st : StoreState) (kept : Kept) (told es : List journal.Event) (old mid new : OfDisk) (signer : SignerState) (seed : List ℕ) → Opened m st old mid → signer ≡ signer_of m st → seed ≡ nonce_seed m.own.secret st.state.next → es ≡ []
     → BegunBy signer st → new.faults ≡ mid.faults
     → ((s : Setting) → s ≡ setting_of m.group m.own.member m.authority signer.key → Starts s seed (recs_of m.certificates.items) signer.state kept es told)
-    → ((s : Setting) → s ≡ setting_of m.group m.own.member m.authority signer.key → IsVouchable s (public_of signer.key) (recs_of m.certificates.items) signer.state)
+    → ((s : Setting) → s ≡ setting_of m.group m.own.member m.authority signer.key → IsVouchable s (public_key signer.key) (recs_of m.certificates.items) signer.state)
     → kept.ended ≡ false → kept.signer.closed ≡ false → SpendsIn {T = Kept} (Ok kept) signer kept.signer mid.moments new.moments es told → Begins m old new told (Ok kept)
 started-from m st kept told es old mid new signer seed h is seed_is none begins faults starts vouchable going unclosed spends =
     let same : setting_for m ≡ setting_of m.group m.own.member m.authority signer.key = ap (setting_of m.group m.own.member m.authority) (sym (ap (λ (x : SignerState). x.key) is)) in
@@ -197,7 +196,7 @@ started-from m st kept told es old mid new signer seed h is seed_is none begins 
     let s1 = subst (λ x. Starts (setting_for m) seed recs x kept es told) (ap (λ (x : SignerState). x.state) is) (starts (setting_for m) same) in
     let s2 = subst (λ x. Starts (setting_for m) x recs st.state kept es told) seed_is s1 in
     let s3 = subst (λ x. Starts (setting_for m) (nonce_seed m.own.secret st.state.next) recs st.state kept x told) none s2 in
-    let v = subst (λ (x : SignerState). IsVouchable (setting_for m) (public_of x.key) recs x.state) is (vouchable (setting_for m) same) in
+    let v = subst (λ (x : SignerState). IsVouchable (setting_for m) (public_key x.key) recs x.state) is (vouchable (setting_for m) same) in
     let p = subst (λ x. SpendsIn {T = Kept} (Ok kept) signer kept.signer mid.moments new.moments x told) none spends in
     let q = subst (λ x. SpendsIn {T = Kept} (Ok kept) x kept.signer mid.moments new.moments [] told) is p in
     started-so m st kept told old mid new h (begun-as m st mid.moments signer is begins) faults s3 v going unclosed q

@@ -13,7 +13,7 @@ use Rattle.ff_ids.specs.Faults.{accusation_fault}
 use Rattle.ff_ids.specs.Views.{State}
 use Rattle.ff_ids.specs.Steps.{Event, Notes, Accuses, Ticks as Passes}
 use Rattle.life_laws.proofs.Lists.{In, Contains-from_In, In-from_filter}
-use Rattle.lms_tree.specs.declared.key.PublicKey.{PublicKey}
+use Rattle.records.specs.declared.keys.Key.{Key}
 use Rattle.records.specs.declared.Body.{Body}
 use Rattle.records.specs.declared.Body.TheVariants.{Certificate, Note, Accusation}
 use Rattle.records.specs.declared.Record.{Record}
@@ -142,7 +142,7 @@ is-gained s (r ∷ records) n place a e =
           }
     ]
 
-pub signature-verifies : (s : Setting) (author : Option PublicKey) (r : Record) → signature_fault s.verifies author r ≡ None → VerifiesFor s author r
+pub signature-verifies : (s : Setting) (author : Option Key) (r : Record) → signature_fault s.verifies author r ≡ None → VerifiesFor s author r
 signature-verifies s None r e = absurd cc
 signature-verifies s (Some key) r e = by (s.verifies key r) refl e
   where
@@ -264,7 +264,7 @@ stored-at_tick : (s : Setting) (n : Node) → (at_tick s n).stored ≡ n.stored
 unfolding passed lives
 stored-at_tick s n = refl
 
-made-in : (s : Setting) (own : PublicKey) (n : Node) (place more : ℕ) (a : AccBody) → OwnSignaturesVerify s own → KeepsKey s own n → length n.lived < place
+made-in : (s : Setting) (own : Key) (n : Node) (place more : ℕ) (a : AccBody) → OwnSignaturesVerify s own → KeepsKey s own n → length n.lived < place
     → slice_get (accusation_events s (state_of s (at_tick s n)) (at_tick s n).stored.next (to_accuse s (at_tick s n) (state_of s (at_tick s n)))) more ≡ Some (Accuses a) → IsMade s n place a
 made-in s own n place more a sign v since e =
     let p = at_tick s n in
@@ -285,7 +285,7 @@ made-in s own n place more a sign v since e =
       verified = record { key = own; author_is = ap (public_key_of n) x.by ∙ v.own_key; verifies = sign x.index (Accusation a) x.left };
     }
 
-ticked-in : (s : Setting) (own : PublicKey) (n : Node) (place : ℕ) (a : AccBody) → OwnSignaturesVerify s own → KeepsKey s own n → slice_get (ticked s n).node.lived place ≡ Some (Accuses a) → (slice_get n.lived place ≡ Some (Accuses a)) ⊎ IsMade s n place a
+ticked-in : (s : Setting) (own : Key) (n : Node) (place : ℕ) (a : AccBody) → OwnSignaturesVerify s own → KeepsKey s own n → slice_get (ticked s n).node.lived place ≡ Some (Accuses a) → (slice_get n.lived place ≡ Some (Accuses a)) ⊎ IsMade s n place a
 ticked-in s own n place a sign v e =
     let p = at_tick s n in
     let st = state_of s p in
@@ -333,7 +333,7 @@ node-served s P step [] r h = subst (λ (x : ServeState). P x.node) (sym (served
 node-served s P step (act ∷ acts) r h =
     subst (λ (x : ServeState). P x.node) (sym (served-cons s act acts r)) (node-served s P step acts (acted s r act) (node-acted s P r act h (λ i is. step r.node i h)))
 
-pub key-served : (s : Setting) (own : PublicKey) (acts : List Act) (r : ServeState) → OwnSignaturesVerify s own → KeepsKey s own r.node → KeepsKey s own (served s acts r).node
+pub key-served : (s : Setting) (own : Key) (acts : List Act) (r : ServeState) → OwnSignaturesVerify s own → KeepsKey s own r.node → KeepsKey s own (served s acts r).node
 key-served s own acts r sign h = node-served s (KeepsKey s own) (λ n i v. key-calls s own n (i ∷ []) v) acts r h
 
 abbrev pub Came : Setting → ServeState → List Act → ℕ → AccBody → Type 0
@@ -407,7 +407,7 @@ came-made s start acts place a may found m = inr (record {
   verified = m.verified;
 })
 
-came-act : (s : Setting) (own : PublicKey) (start : ServeState) (acts : List Act) (act : Act) (place : ℕ) (a : AccBody) → OwnSignaturesVerify s own → KeepsKey s own (node_behind s start acts) → AllCame s start acts
+came-act : (s : Setting) (own : Key) (start : ServeState) (acts : List Act) (act : Act) (place : ℕ) (a : AccBody) → OwnSignaturesVerify s own → KeepsKey s own (node_behind s start acts) → AllCame s start acts
     → slice_get (acted s (served s acts start) act).node.lived place ≡ Some (Accuses a) → Came s start (acts ++ act ∷ []) place a
 came-act s own start acts Receives place a sign v h e = came-earlier s start acts (Receives ∷ []) place a (h place a e)
 came-act s own start acts (Writes line) place a sign v h e = came-earlier s start acts (Writes line ∷ []) place a (h place a e)
@@ -441,7 +441,7 @@ came-act s own start acts (Calls Ticks) place a sign v h e = by (may_tick s (nod
     by true may e = made may e
     by false never e = old e
 
-came-on : (s : Setting) (own : PublicKey) (start : ServeState) (more acts : List Act) → OwnSignaturesVerify s own → KeepsKey s own start.node → AllCame s start acts → AllCame s start (acts ++ more)
+came-on : (s : Setting) (own : Key) (start : ServeState) (more acts : List Act) → OwnSignaturesVerify s own → KeepsKey s own start.node → AllCame s start acts → AllCame s start (acts ++ more)
 came-on s own start [] acts sign v h = subst (AllCame s start) (sym (append-nil acts)) h
 came-on s own start (act ∷ more) acts sign v h =
     let one : AllCame s start (acts ++ act ∷ []) = λ place a e.
@@ -449,7 +449,7 @@ came-on s own start (act ∷ more) acts sign v h =
     subst (AllCame s start) (append_assoc acts (act ∷ []) more) (came-on s own start more (acts ++ act ∷ []) sign v one)
 
 -- A life that begins without an accusation has none but those that were delivered or made.
-pub all-came : (s : Setting) (own : PublicKey) (start : ServeState) (acts : List Act) → OwnSignaturesVerify s own → KeepsKey s own start.node → ((place : ℕ) (a : AccBody) → slice_get start.node.lived place ≡ Some (Accuses a) → ⊥) → AllCame s start acts
+pub all-came : (s : Setting) (own : Key) (start : ServeState) (acts : List Act) → OwnSignaturesVerify s own → KeepsKey s own start.node → ((place : ℕ) (a : AccBody) → slice_get start.node.lived place ≡ Some (Accuses a) → ⊥) → AllCame s start acts
 all-came s own start acts sign v none =
     let first : AllCame s start [] = λ place a e. absurd (none place a (subst (λ (x : ServeState). slice_get x.node.lived place ≡ Some (Accuses a)) (served-nil s start) e)) in
     came-on s own start acts [] sign v first

@@ -16,7 +16,7 @@ use Rattle.ff_ids.specs.Notes.{is_leaving}
 use Rattle.life_laws.proofs.Lists.{In, In-append_cases, In-filter, In-from_map}
 use Rattle.life_laws.proofs.LifeLemmas.{state_at-next}
 use Rattle.life_laws.proofs.JustifiedLemmas.{justified}
-use Rattle.lms_tree.specs.declared.key.PublicKey.{PublicKey}
+use Rattle.records.specs.declared.keys.Key.{Key}
 use Rattle.records.specs.declared.CertBody.{CertBody}
 use Rattle.records.specs.declared.Body.{Body}
 use Rattle.records.specs.declared.Body.TheVariants.{Certificate, Note, Accusation}
@@ -626,7 +626,7 @@ passes-not zero a e = cc
 passes-not (suc place) a e = cc
 
 -- What a tick among the acts removes rests on an accusation that was delivered or made.
-pub removes : (s : Setting) (own : PublicKey) (start : ServeState) (acts before behind : List Act) (at m : ℕ) → OwnSignaturesVerify s own → KeepsKey s own start.node → ((place : ℕ) (a : AccBody) → slice_get start.node.lived place ≡ Some (Accuses a) → ⊥)
+pub removes : (s : Setting) (own : Key) (start : ServeState) (acts before behind : List Act) (at m : ℕ) → OwnSignaturesVerify s own → KeepsKey s own start.node → ((place : ℕ) (a : AccBody) → slice_get start.node.lived place ≡ Some (Accuses a) → ⊥)
     → acts ≡ before ++ Calls Ticks ∷ behind → TicksAway s (node_behind s start before) at m → Removes s start acts at m
 removes s own start acts before behind at m sign v none ticks away =
     let n = node_behind s start before in

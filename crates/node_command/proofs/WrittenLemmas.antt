@@ -8,7 +8,7 @@ use Rattle.std.proofs.lemmas.Bool.{cond_both}
 use Rattle.std.proofs.lemmas.List.{take-append-drop}
 use Rattle.ff_ids.specs.declared.AccBody.{AccBody}
 use Rattle.life_laws.proofs.Lists.{In}
-use Rattle.lms_tree.specs.declared.key.PublicKey.{PublicKey}
+use Rattle.records.specs.declared.keys.Key.{Key}
 use Rattle.journal.specs.declared.event.Event as journal
 use Rattle.journal.specs.declared.event.What as whats
 use Rattle.journal.specs.declared.event.What.TheVariants as told
@@ -162,14 +162,14 @@ IsOfTurn (Writes line) = (t : Turn) × (line ≡ turn_text t)
 IsOfTurn (Calls input) = Unit {0}
 
 -- What a life begins with, so that its removals have their causes in it, and what it sends verifies.
-pub record IsFounded (s : Setting) (own : PublicKey) (start : ServeState) : Type 0 where
+pub record IsFounded (s : Setting) (own : Key) (start : ServeState) : Type 0 where
   pub rooted : IsRooted s own start
   pub upright : IsUpright s start.node
 
 expires-now : (s : Setting) (start : ServeState) (acts done later : List Act) (i : Input) (at : ℕ) (a : AccBody) → acts ≡ done ++ Calls i ∷ later → TellsNow s (node_behind s start done) i (expiry at a) → Expires s start acts at a
 expires-now s start acts done later i at a split now = expires s start acts done later at a (split ∙ ap (λ (x : Input). done ++ Calls x ∷ later) now.tick) now.told
 
-called-of : (s : Setting) (own : PublicKey) (start : ServeState) (acts done later : List Act) (i : Input) → IsFounded s own start → acts ≡ done ++ Calls i ∷ later → TellsOf s start acts (call_of s (node_behind s start done) i).told
+called-of : (s : Setting) (own : Key) (start : ServeState) (acts done later : List Act) (i : Input) → IsFounded s own start → acts ≡ done ++ Calls i ∷ later → TellsOf s start acts (call_of s (node_behind s start done) i).told
 called-of s own start acts done later i f split at (told.Removed m) among = called-departs s own start acts done later i at m f.rooted split among
 called-of s own start acts done later i f split at (told.Expired a) among = expires-now s start acts done later i at a split (called-told s (node_behind s start done) i (expiry at a) (expiry-of-ticks at a) among)
 called-of s own start acts done later i f split at (told.Took body None) among = accepts s start acts done later i at body split (called-taken s (node_behind s start done) i at body among)
@@ -177,7 +177,7 @@ called-of s own start acts done later i f split at (told.Spent index (Accusation
 called-of s own start acts done later i f split at (told.Sent place to bytes) among = sends s start acts done later i at place to bytes f.upright split among
 called-of s own start acts done later i f split at _ among = tt
 
-cut-of : (s : Setting) (own : PublicKey) (start : ServeState) (acts done later : List Act) (i : Input) (c : Call) → IsFounded s own start → acts ≡ done ++ Calls i ∷ later → IsCut s (node_behind s start done) i c → TellsOf s start acts c.told
+cut-of : (s : Setting) (own : Key) (start : ServeState) (acts done later : List Act) (i : Input) (c : Call) → IsFounded s own start → acts ≡ done ++ Calls i ∷ later → IsCut s (node_behind s start done) i c → TellsOf s start acts c.told
 cut-of s own start acts done later i c f split cut at (told.Removed m) among = cut-departs s own start acts done later i c at m f.rooted split cut among
 cut-of s own start acts done later i c f split cut at (told.Expired a) among = expires-now s start acts done later i at a split (cut-told s (node_behind s start done) i c (expiry at a) (expiry-of-ticks at a) cut among)
 cut-of s own start acts done later i c f split cut at (told.Took body None) among = accepts s start acts done later i at body split (cut-taken s (node_behind s start done) i c at body cut among)
@@ -185,7 +185,7 @@ cut-of s own start acts done later i c f split cut at (told.Spent index (Accusat
 cut-of s own start acts done later i c f split cut at (told.Sent place to bytes) among = cut-sends s start acts done later i c at place to bytes f.upright split cut among
 cut-of s own start acts done later i c f split cut at _ among = tt
 
-lines-act : (s : Setting) (own : PublicKey) (start : ServeState) (acts done later : List Act) (act : Act) → IsFounded s own start → acts ≡ done ++ act ∷ later → IsOfTurn act → AreLines (Gives s start acts) (served s done start).text
+lines-act : (s : Setting) (own : Key) (start : ServeState) (acts done later : List Act) (act : Act) → IsFounded s own start → acts ≡ done ++ act ∷ later → IsOfTurn act → AreLines (Gives s start acts) (served s done start).text
     → AreLines (Gives s start acts) (acted s (served s done start) act).text
 lines-act s own start acts done later Receives f split of h = h
 lines-act s own start acts done later (Writes line) f split of h =
@@ -204,7 +204,7 @@ lines-act s own start acts done later (Calls Ticks) f split of h =
     cond_both {A = ServeState} (may_tick s r.node) (gives c r) r (λ x. AreLines (Gives s start acts) x.text)
     (λ may. lines-gives s start acts c r (called-of s own start acts done later Ticks f split) h) (λ never. h)
 
-lines-on : (s : Setting) (own : PublicKey) (start : ServeState) (acts done more later : List Act) → IsFounded s own start → acts ≡ done ++ (more ++ later) → AllByRecursion IsOfTurn more → AreLines (Gives s start acts) (served s done start).text
+lines-on : (s : Setting) (own : Key) (start : ServeState) (acts done more later : List Act) → IsFounded s own start → acts ≡ done ++ (more ++ later) → AllByRecursion IsOfTurn more → AreLines (Gives s start acts) (served s done start).text
     → AreLines (Gives s start acts) (served s (done ++ more) start).text
 lines-on s own start acts done [] later f split of h = subst (λ (xs : List Act). AreLines (Gives s start acts) (served s xs start).text) (sym (append-nil done)) h
 lines-on s own start acts done (act ∷ more) later f split of h =
@@ -215,7 +215,7 @@ lines-on s own start acts done (act ∷ more) later f split of h =
     (lines-on s own start acts (done ++ act ∷ []) more later f (split ∙ sym (append_assoc done (act ∷ []) (more ++ later))) of.1 one)
 
 -- as the life begins nothing is written
-lines-served : (s : Setting) (own : PublicKey) (start : ServeState) (acts done later : List Act) → IsFounded s own start → start.text ≡ [] → acts ≡ done ++ later → AllByRecursion IsOfTurn done → AreLines (Gives s start acts) (served s done start).text
+lines-served : (s : Setting) (own : Key) (start : ServeState) (acts done later : List Act) → IsFounded s own start → start.text ≡ [] → acts ≡ done ++ later → AllByRecursion IsOfTurn done → AreLines (Gives s start acts) (served s done start).text
 lines-served s own start acts done later f none split of =
     let P = Gives s start acts in
     let first : AreLines P (served s [] start).text = subst (λ (r : ServeState). AreLines P r.text) (sym (served-nil s start)) (subst (AreLines P) (sym none) (lines-none P)) in
@@ -232,16 +232,16 @@ all-behind P (x ∷ xs) ys a b = (a.0, all-behind P xs ys a.1 b)
 front-of : (acts done later : List Act) → acts ≡ done ++ later → AllByRecursion IsOfTurn acts → AllByRecursion IsOfTurn done
 front-of acts done later split of = all-front IsOfTurn done later (subst (AllByRecursion IsOfTurn) split of)
 
-pub lines-all : (s : Setting) (own : PublicKey) (start : ServeState) (acts : List Act) → IsFounded s own start → start.text ≡ [] → AllByRecursion IsOfTurn acts → AreLines (Gives s start acts) (served s acts start).text
+pub lines-all : (s : Setting) (own : Key) (start : ServeState) (acts : List Act) → IsFounded s own start → start.text ≡ [] → AllByRecursion IsOfTurn acts → AreLines (Gives s start acts) (served s acts start).text
 lines-all s own start acts f none of = lines-served s own start acts acts [] f none (sym (append-nil acts)) of
 
-lines-stopped : (s : Setting) (own : PublicKey) (start : ServeState) (acts : List Act) (whole : ServeState) → IsFounded s own start → start.text ≡ [] → AllByRecursion IsOfTurn acts → IsStopped s acts start whole → AreLines (Gives s start acts) whole.text
+lines-stopped : (s : Setting) (own : Key) (start : ServeState) (acts : List Act) (whole : ServeState) → IsFounded s own start → start.text ≡ [] → AllByRecursion IsOfTurn acts → IsStopped s acts start whole → AreLines (Gives s start acts) whole.text
 lines-stopped s own start acts whole f none of h =
     let r = served s h.done start in
     let front = lines-served s own start acts h.done (Calls h.input ∷ h.later) f none h.split (front-of acts h.done (Calls h.input ∷ h.later) h.split of) in
     subst (λ (x : ServeState). AreLines (Gives s start acts) x.text) (sym h.is) (lines-gives s start acts h.call r (cut-of s own start acts h.done h.later h.input h.call f h.split h.cut) front)
 
-lines-whole : (s : Setting) (own : PublicKey) (start : ServeState) (acts : List Act) (whole : ServeState) → IsFounded s own start → start.text ≡ [] → AllByRecursion IsOfTurn acts → IsWhole s acts start whole → AreLines (Gives s start acts) whole.text
+lines-whole : (s : Setting) (own : Key) (start : ServeState) (acts : List Act) (whole : ServeState) → IsFounded s own start → start.text ≡ [] → AllByRecursion IsOfTurn acts → IsWhole s acts start whole → AreLines (Gives s start acts) whole.text
 lines-whole s own start acts whole f none of (inl is) = subst (λ (x : ServeState). AreLines (Gives s start acts) x.text) (sym is) (lines-all s own start acts f none of)
 lines-whole s own start acts whole f none of (inr h) = lines-stopped s own start acts whole f none of h
 
@@ -317,7 +317,7 @@ end-lines s start acts =
     lines-one (Gives s start acts) end_line (whole-fed (codes "end") refl) (λ moment w is. absurd (other-line end_line (event moment w) (λ e. absurd (omega (arith, e))) is))
 
 -- What was served broke off.
-broke-off : (s : Setting) (own : PublicKey) (start : ServeState) (acts : List Act) (was mid : Option (List ℕ)) (first : List ℕ) (before : Before) (w : Standing) (result : Result (Unit {0}) NodeHalt) → IsFounded s own start → start.text ≡ []
+broke-off : (s : Setting) (own : Key) (start : ServeState) (acts : List Act) (was mid : Option (List ℕ)) (first : List ℕ) (before : Before) (w : Standing) (result : Result (Unit {0}) NodeHalt) → IsFounded s own start → start.text ≡ []
     → AllByRecursion IsOfTurn acts → Appends was mid first → AreLines (Gives s start acts) first → before.taken ≡ mid → ((text : List ℕ) → UnlessCut result (AreWholeLines text)) → BreaksOff s before acts start w ⊎ IsStarved s before acts start w
     → WritesOf s start acts was w.taken result
 broke-off s own start acts was mid first before w result f none of one lines at cut (inl h) =
@@ -335,7 +335,7 @@ untold : (s : Setting) (start : ServeState) (acts : List Act) (events : List jou
 untold s start acts events was now result of cut h =
     record { bytes = h.text; written = h.written; whole = lines_of events; lines = lines-told s start acts events of; front = h.front; ended = cut h.text }
 
-unserved : (s : Setting) (own : PublicKey) (node : Kept) (start : ServeState) (acts : List Act) (events : List journal.Event) (was now : Environment) (result : Result (Unit {0}) NodeHalt) (fault : ServeFault) → IsFounded s own start → start.text ≡ [] → AllByRecursion IsOfTurn acts
+unserved : (s : Setting) (own : Key) (node : Kept) (start : ServeState) (acts : List Act) (events : List journal.Event) (was now : Environment) (result : Result (Unit {0}) NodeHalt) (fault : ServeFault) → IsFounded s own start → start.text ≡ [] → AllByRecursion IsOfTurn acts
     → TellsOf s start acts events → ((text : List ℕ) → UnlessCut result (AreWholeLines text)) → (fault ≡ serve.StoreFault → ⊥) → IsUnserved s node events acts start was now fault → WritesOf s start acts was.taken now.taken result
 unserved s own node start acts events was now result serve.StoreFault f none of tells cut other h = absurd (other refl)
 unserved s own node start acts events was now result serve.WriteFault f none of tells cut other h =
@@ -350,7 +350,7 @@ starved-not : serve.OutOfMemory ≡ serve.StoreFault → ⊥
 starved-not e = cc
 
 -- Whatever ended the life, what was written is a front of its lines.
-pub lives-written : (s : Setting) (own : PublicKey) (node : Kept) (start : ServeState) (acts : List Act) (events : List journal.Event) (was now : Environment) (result : Result (Unit {0}) NodeHalt) → IsFounded s own start → start.text ≡ [] → AllByRecursion IsOfTurn acts
+pub lives-written : (s : Setting) (own : Key) (node : Kept) (start : ServeState) (acts : List Act) (events : List journal.Event) (was now : Environment) (result : Result (Unit {0}) NodeHalt) → IsFounded s own start → start.text ≡ [] → AllByRecursion IsOfTurn acts
     → TellsOf s start acts events → Lives s node events acts start was now result → WritesOf s start acts was.taken now.taken result
 lives-written s own node start acts events was now (Ok done) f none of tells h =
     let P = Gives s start acts in

@@ -6,6 +6,7 @@ use Rattle.lms_tree.specs.Lms.{public_of}
 use Rattle.play.specs.Plays.{IoState}
 use Rattle.records.specs.declared.Body.{Body}
 use Rattle.records.specs.declared.Body.TheVariants.{Certificate}
+use Rattle.records.specs.declared.keys.Key.TheVariants as key_kinds
 use Rattle.records.specs.Signing.{CheckedRecord}
 use Rattle.schedule_texts.specs.KitGrammar as kit_grammar
 use Rattle.schedule_texts.specs.KitRows as kit_rows
@@ -14,6 +15,7 @@ use Rattle.schedule_texts.specs.declared.kit.KitText.TheVariants as kit
 use Rattle.schedule_texts.specs.declared.kit_line.KitLine.{KitLine}
 use Rattle.schedule_texts.specs.declared.kit_line.KitLine.TheVariants as lines
 use Rattle.secrets.specs.Secrets.{store_tag}
+use Rattle.signer.specs.Signing.{public_key}
 use Rattle.whole_text.specs.Gathered.{IsWhole, Judging, lines_from, unread}
 use Rattle.node_rules.specs.Lives.{is_certificate_for}
 use Rattle.node_core.specs.Begins.{AreCertificatesOf, IsCheckedIn, IsGroup}
@@ -70,8 +72,8 @@ pub record AreKit (lines : List KitLine) : Type 0 where
 pub record IsSound (group : Group) (own : Own) (authority : PublicKey) (millis : ℕ) (certificates : List CheckedRecord) : Type 0 where
   pub numbers : IsGroup group
   pub pace : 1 ≤ millis
-  pub checked : All (IsCheckedIn group authority) certificates
-  pub certified : AreCertificatesOf own.member (public_of own.key) certificates
+  pub checked : All (IsCheckedIn group (key_kinds.Lms authority)) certificates
+  pub certified : AreCertificatesOf own.member (public_key own.key) certificates
 
 abbrev pub IsSoundMember : Member → Type 0
 IsSoundMember m = IsSound m.group m.own m.authority m.millis m.certificates.items

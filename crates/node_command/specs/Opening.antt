@@ -8,13 +8,12 @@ use Rattle.epoch_store.specs.Calls.{HoldsStore, OpensAs, SettlesAs, same}
 use Rattle.epoch_store.specs.Store.{StoreOf}
 use Rattle.journal.specs.declared.event.Event as journal
 use Rattle.lms_tree.specs.Leaves.{index_count}
-use Rattle.lms_tree.specs.Lms.{public_of}
 use Rattle.ports.specs.Count.{next_count}
 use Rattle.ports.specs.Disk.{Fails, Moment, Since, stays}
 use Rattle.ports.specs.Outside.{OfDisk}
 use Rattle.secrets.specs.Secrets.{nonce_seed}
 use Rattle.signer.specs.Lives.{EndsNow, EndsWithin, IsLiving, Spent}
-use Rattle.signer.specs.Signing.{SignerState}
+use Rattle.signer.specs.Signing.{SignerState, public_key}
 use Rattle.node_rules.specs.Nodes.{Setting}
 use Rattle.node_rules.specs.Calls.{Call}
 use Rattle.node_rules.specs.Starting.{started}
@@ -129,7 +128,7 @@ pub record IsBegun (m : Member) (stored : Stored) (node : Kept) (told : List jou
   pub found : IsFound m stored old
   pub is : IsNode (setting_for m) node (start_of m stored).node
   pub told_is : told ≡ (start_of m stored).told
-  pub vouchable : IsVouchable (setting_for m) (public_of m.own.key) (recs_of m.certificates.items) stored
+  pub vouchable : IsVouchable (setting_for m) (public_key m.own.key) (recs_of m.certificates.items) stored
   pub going : node.ended ≡ false
   pub unclosed : node.signer.closed ≡ false
   pub lives : (before : List ℕ) (spent : List Spent) → EndsNow (tag_of m) before spent old.moments

@@ -4,7 +4,7 @@ use Rattle.std.specs.List.{slice_get}
 use Rattle.ff_ids.specs.declared.AccBody.{AccBody}
 use Rattle.ff_ids.specs.Steps.{Event, Accuses, Ticks as Passes}
 use Rattle.ff_ids.specs.Lives.{opening, IsRemovedAt, RestsOn}
-use Rattle.lms_tree.specs.declared.key.PublicKey.{PublicKey}
+use Rattle.records.specs.declared.keys.Key.{Key}
 use Rattle.records.specs.declared.Body.TheVariants.{Accusation}
 use Rattle.records.specs.declared.Record.{Record}
 use Rattle.datagram.specs.declared.Datagram.TheVariants as kinds
@@ -39,8 +39,8 @@ pub record IsTick (s : Setting) (start : ServeState) (acts : List Act) (moment :
 -- ## Where an accusation has come from
 
 -- The author has a key, under which the record verifies.
-pub record VerifiesFor (s : Setting) (author : Option PublicKey) (r : Record) : Type 0 where
-  pub key : PublicKey
+pub record VerifiesFor (s : Setting) (author : Option Key) (r : Record) : Type 0 where
+  pub key : Key
   pub author_is : author ≡ Some key
   pub verifies : s.verifies key r ≡ true
 

@@ -5,7 +5,6 @@ use Rattle.epoch_store.specs.declared.seat.Seat.{Seat}
 use Rattle.epoch_store.specs.declared.Stored.{Stored}
 use Rattle.epoch_store.specs.Store.{IsSettled}
 use Rattle.line_text.specs.declared.bad_word.BadWord.{BadWord}
-use Rattle.lms_tree.specs.Lms.{public_of}
 use Rattle.play.specs.Plays as play
 use Rattle.play.specs.declared.stop.Stop.{Stop}
 use Rattle.play.specs.declared.stop.Stop.TheVariants as stop
@@ -14,6 +13,7 @@ use Rattle.ports.specs.Link.{LinkState}
 use Rattle.schedule_texts.specs.declared.kit.KitText.TheVariants as kit
 use Rattle.schedule_texts.specs.declared.kit_line.KitLine.{KitLine}
 use Rattle.whole_text.specs.Gathered.{IsUnfinished, IsWhole}
+use Rattle.signer.specs.Signing.{public_key}
 use Rattle.node_core.specs.Begins.{IsVouchable}
 use Rattle.node_core.specs.Playing.{Kept}
 use Rattle.node_core.specs.Rolls.{recs_of}
@@ -64,7 +64,7 @@ pub record HasRun (m : Member) (feed : NetInputs) (was now : Environment) : Type
   pub stored : Stored
   pub found : IsFound m stored was.disk
   -- A law of any member that a text sets up: `found`, `written` and `given` tie it to this run.
-  pub vouchable : IsVouchable (setting_for m) (public_of m.own.key) (recs_of m.certificates.items) stored
+  pub vouchable : IsVouchable (setting_for m) (public_key m.own.key) (recs_of m.certificates.items) stored
   pub written : Appends was.taken now.taken (journal_of m stored feed.stay feed.link feed.reading feed.readings)
   pub given : now.link ≡ Some (life_in m stored feed).link
   -- A law of any life: `given` ties it to the link.

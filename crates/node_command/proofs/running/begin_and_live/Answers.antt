@@ -1,6 +1,5 @@
 use Rattle.std.proofs.Common.{◌∙◌, ap, inr, sym}
 use Rattle.ports.specs.Count.{counted}
-use Rattle.node_core.specs.Playing.{Kept}
 use Rattle.node_command.specs.Journal.{environment, bound_for}
 use Rattle.node_command.specs.Opening.{setting_for, start_of}
 use Rattle.node_command.proofs.RunLemmas.{begins-behind, begins-bound, begins-cause, begins-rose, begins-writable, begun-unsent, calm-behind, lived-run, not-begun, rose-behind, served-cause}
