@@ -1,6 +1,7 @@
 //! Certificates: the authority signs one for each member, and each member checks them all.
 
 ghost use Rattle.std.specs.Prelude.{◌≡◌, IfOk, All};
+ghost use Rattle.records.specs.declared.keys.Key.TheVariants as keys;
 ghost use Rattle.node_core.specs.Begins.{IsCheckedIn};
 ghost use Rattle.example_node.specs.declared.keys.TheConstants.{GROUP};
 
@@ -8,7 +9,7 @@ use crate::keys::{GROUP, make_store, new_disk, open};
 use anyhow::{Result, anyhow};
 use ff_ids::MemberId;
 use lms_tree::PublicKey;
-use records::{CertBody, Checked, read_record, write_record};
+use records::{CertBody, Checked, Key, read_record, write_record};
 use std::alloc::Global;
 
 /// What each member is given before it starts: the authority's key, and the certificates as bytes. Whoever carries
@@ -34,7 +35,7 @@ impl Directory {
             let cert = CertBody {
                 member: *member,
                 port: 20_000 + member.get(),
-                key: *key,
+                key: Key::Lms(*key),
             };
             let signed = signer.sign_certificate(alloc, &mut disk, cert)?;
             let mut bytes = Vec::new(alloc);
@@ -49,18 +50,19 @@ impl Directory {
 
     /// The certificates, each checked under the authority's key.
     pub fn check(&self, alloc: Global) -> Result<Vec<Checked>>
-        ensures { IfOk result (λ cs. All (IsCheckedIn GROUP self.now.authority) cs.items) }
+        ensures { IfOk result (λ cs. All (IsCheckedIn GROUP (keys.Lms self.now.authority)) cs.items) }
     {
         let mut checked = Vec::new(alloc);
+        let authority = Key::Lms(self.authority);
         for bytes in &self.certificates {
-            checked.push(check_one(alloc, &self.authority, bytes)?)?;
+            checked.push(check_one(alloc, &authority, bytes)?)?;
         }
         Ok(checked)
     }
 }
 
 /// The record in these bytes, if the authority has signed it.
-fn check_one(alloc: Global, authority: &PublicKey, bytes: &[u8]) -> Result<Checked>
+fn check_one(alloc: Global, authority: &Key, bytes: &[u8]) -> Result<Checked>
     ensures { IfOk result (λ checked. IsCheckedIn GROUP authority.now checked) }
 {
     let Ok((record, _length)) = read_record(alloc, bytes) else {

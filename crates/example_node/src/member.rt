@@ -8,6 +8,7 @@ use lms_tree::PublicKey;
 use membership::Membership;
 use node_core::{Events, Kit, Node, Outbox};
 use ports::MemoryDisk;
+use records::Key;
 use std::alloc::Global;
 use std::marker::Model;
 
@@ -64,7 +65,7 @@ impl Member {
             certificates: directory.check(alloc)?,
             nonce_seed,
         };
-        ensure!(kit.is_sound(&public), "no certificate of this member's key");
+        ensure!(kit.is_sound(&Key::Lms(public)), "no certificate of this member's key");
         let mut answer = Answer::new(alloc);
         let node = Node::start(alloc, kit, signer, &mut disk, &mut answer.events)?;
         Ok((Member { number, node, disk }, answer))
