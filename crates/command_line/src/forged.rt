@@ -9,7 +9,7 @@ ghost use Rattle.world_rules.specs.Walk.{owner_text};
 use arrayvec::ArrayString;
 use ff_ids::{AccBody, MemberId, NoteBody, digit};
 use itoa::Buffer;
-use records::{Body, CertBody};
+use records::{Body, CertBody, Key};
 
 /// Adds a number.
 fn add_number(number: u64, text: &mut ArrayString<256>)
@@ -52,7 +52,9 @@ fn add_certificate(certificate: &CertBody, text: &mut ArrayString<256>)
     add_number(u64::from(certificate.member.get()), text);
     add_next(u64::from(certificate.port), text);
     text.push_str(" ");
-    add_digits(&certificate.key.write(), text);
+    match &certificate.key {
+        Key::Lms(key) => add_digits(&key.write(), text),
+    }
 }
 
 fn add_note(note: &NoteBody, text: &mut ArrayString<256>)

@@ -65,7 +65,10 @@ impl Member {
             certificates: directory.check(alloc)?,
             nonce_seed,
         };
-        ensure!(kit.is_sound(&Key::Lms(public)), "no certificate of this member's key");
+        ensure!(
+            kit.is_sound(&Key::Lms(public)),
+            "no certificate of this member's key"
+        );
         let mut answer = Answer::new(alloc);
         let node = Node::start(alloc, kit, signer, &mut disk, &mut answer.events)?;
         Ok((Member { number, node, disk }, answer))

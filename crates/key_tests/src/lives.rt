@@ -3,7 +3,7 @@
 use ff_ids::{AccBody, Epoch, Group, Mask, MemberId, RingNo};
 use fields::Reader;
 use lms_ots::OtsKind;
-use lms_tree::{TreeKind, verify};
+use lms_tree::TreeKind;
 use records::{Checked, Record, signed_bytes};
 use signer::key_lives::{Act, Holder, play};
 use std::alloc::Global;
@@ -119,7 +119,10 @@ fn index_of(record: &Checked) -> Result<u32, Fail> {
 fn is_signed_for(group: &Group, record: &Checked) -> bool {
     let Record { body, signature } = record.rec();
     let signed = signed_bytes(group, body);
-    verify(record.key(), signed.as_slice(), signature.as_slice()).is_ok()
+    record
+        .key()
+        .verify(signed.as_slice(), signature.as_slice())
+        .is_ok()
 }
 
 /// The index of each record that was handed out, and whether it is one of the other group, and not of the first.

@@ -7,7 +7,7 @@ use ff_ids::{AccBody, Epoch, Mask, MemberId, NoteBody, RingNo};
 use fields::Bytes;
 use lms_ots::OtsKind;
 use lms_tree::{PublicKey, TreeKind};
-use records::{Body, CertBody, FormFault, Record, read_record, write_record, *};
+use records::{Body, CertBody, FormFault, Key, Record, read_record, write_record, *};
 use std::alloc::{AllocError, Global};
 use std::process::Abort;
 use std::test::Fail;
@@ -48,12 +48,12 @@ fn certificate() -> Body
     Body::Certificate(CertBody {
         member: MemberId::new(2),
         port: 20002,
-        key: PublicKey {
+        key: Key::Lms(PublicKey {
             tree: TreeKind::H5,
             ots: OtsKind::W8,
             id: [7; 16],
             root: [9; 32],
-        },
+        }),
     })
 }
 

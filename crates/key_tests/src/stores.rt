@@ -14,7 +14,7 @@ use lms_ots::OtsKind;
 use lms_tree::{SecretKey, TreeKind};
 use plain::state_of;
 use ports::{Disk, Failed, MemoryDisk};
-use records::{Body, CertBody, Checked};
+use records::{Body, CertBody, Checked, Key};
 use signer::{SignFault, Signer};
 use std::alloc::Global;
 use std::process::Abort;
@@ -571,7 +571,7 @@ fn certificate(alloc: Global) -> Result<CertBody, Fail>
     Ok(CertBody {
         member: MemberId::new(1),
         port: 20_001,
-        key: key.public(),
+        key: Key::Lms(key.public()),
     })
 }
 

@@ -1,7 +1,7 @@
 //! What is held of records that are signed here, each by a key of its own.
 
 ghost use Rattle.std.specs.Prelude.{◌≡◌, ◌<◌, IfOk, OnOk, IsSome};
-ghost use Rattle.ff_ids.specs.declared.summary.RecordKey.{RecordKey as Key};
+ghost use Rattle.ff_ids.specs.declared.summary.RecordKey.{RecordKey as HeldKey};
 ghost use Rattle.ff_ids.specs.declared.summary.RecordKey.TheVariants as keys;
 ghost use Rattle.records.specs.Spelling.{HasPort};
 ghost use Rattle.record_set.specs.Held.{held_under, key_of};
@@ -14,7 +14,7 @@ use fields::Bytes;
 use lms_ots::OtsKind;
 use lms_tree::{PublicKey, SecretKey, TreeKind};
 use record_set::RecordSet;
-use records::{Body, CertBody, Checked, Record, read_record, signed_bytes};
+use records::{Body, CertBody, Checked, Key, Record, read_record, signed_bytes};
 use std::alloc::Global;
 use std::process::Abort;
 use std::test::Fail;
@@ -51,7 +51,7 @@ fn checked(rt: &impl Abort, alloc: Global, number: u8, body: Body) -> Result<Che
         body,
         signature: Bytes::from_vec(signature),
     };
-    match Checked::new(&GROUP, &key, rec) {
+    match Checked::new(&GROUP, &Key::Lms(key), rec) {
         Ok(rec) => Ok(rec),
         Err(_) => panic!(rt; "a good signature"),
     }
@@ -65,12 +65,12 @@ fn certificate(member: MemberId) -> Body
     Body::Certificate(CertBody {
         member,
         port: 20001,
-        key: PublicKey {
+        key: Key::Lms(PublicKey {
             tree: TreeKind::H5,
             ots: OtsKind::W8,
             id: [1; 16],
             root: [2; 32],
-        },
+        }),
     })
 }
 
@@ -111,7 +111,7 @@ fn put(
     requires port { HasPort body }
     requires ring { HasRing 1 body }
     ensures held { OnOk result (IsSome (held_under set.new (key_of body))) }
-    ensures kept { (k : Key) → IsSome (held_under set.old k)
+    ensures kept { (k : HeldKey) → IsSome (held_under set.old k)
         → OnOk result (IsSome (held_under set.new k)) }
 {
     let rec = checked(rt, alloc, number, body)?;

@@ -56,7 +56,7 @@ fn signature_digits(
     let cert = CertBody {
         member: MemberId::new(number),
         port: 20_000 + number,
-        key,
+        key: records::Key::Lms(key),
     };
     let checked = authority.sign(alloc, &GROUP, Body::Certificate(cert))?;
     Ok(hex::encode(alloc, checked.rec().signature.as_slice())?)

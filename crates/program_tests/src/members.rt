@@ -7,7 +7,7 @@ use fixtures::disk;
 use lms_ots::OtsKind;
 use lms_tree::{PublicKey, SecretKey, TreeKind};
 use ports::{LinkAnswer, MemoryDisk};
-use records::{CertBody, Checked, write_record};
+use records::{CertBody, Checked, Key, write_record};
 use secrets::{make_key, store_tag};
 use signer::Signer;
 use std::alloc::Global;
@@ -62,7 +62,7 @@ fn signature_of(
     let cert = CertBody {
         member: MemberId::new(u16::from(member)),
         port: 20_000 + u16::from(member),
-        key,
+        key: Key::Lms(key),
     };
     let signed = authority
         .sign_certificate(alloc, disk, cert)

@@ -101,9 +101,5 @@ pub(crate) fn cert_line(
         body: Body::Certificate(cert),
         signature,
     };
-    Ok(KitLine::Cert(Checked::from_signed(
-        group,
-        &Key::Lms(*authority),
-        rec,
-    )))
+    Ok(KitLine::Cert(Checked::from_signed(group, &Key::Lms(*authority), rec)))
 }

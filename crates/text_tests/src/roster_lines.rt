@@ -4,7 +4,7 @@ use ff_ids::{Group, MemberId};
 use line_text::{BadWord, LineFault, Reader};
 use lms_ots::OtsKind;
 use lms_tree::{PublicKey, TreeKind};
-use records::CertBody;
+use records::{CertBody, Key};
 use schedule_texts::{Kinds, RosterLine, RosterText, SecretLine, SecretText};
 use std::alloc::Global;
 use std::test::Fail;
@@ -73,12 +73,12 @@ fn certificates_are_asked_for(rt: HostRuntime) -> Result<(), Fail> {
     let wanted = CertBody {
         member: MemberId::new(1023),
         port: 65_535,
-        key: PublicKey {
+        key: Key::Lms(PublicKey {
             tree: TreeKind::H15,
             ots: OtsKind::W1,
             id: [0xa1; 16],
             root: [0xb2; 32],
-        },
+        }),
     };
     assert_eq!(rt;
         lines.line(alloc, line.as_bytes())?,

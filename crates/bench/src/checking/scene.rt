@@ -6,7 +6,7 @@ use ff_ids::{Epoch, Group, Mask, MemberId, NoteBody};
 use lms_ots::OtsKind;
 use lms_tree::{PublicKey, SecretKey, TreeKind};
 use membership::{Changes, Membership};
-use records::{Body, CertBody, signed_bytes};
+use records::{Body, CertBody, Key, signed_bytes};
 use ring_order::hash_places;
 use std::alloc::Global;
 use std::io;
@@ -68,7 +68,7 @@ fn roster(alloc: Global, key: PublicKey) -> io::Result<Roster> {
     let cert = CertBody {
         member: MemberId::new(1),
         port: 20_001,
-        key,
+        key: Key::Lms(key),
     };
     if roster.get(cert.member).is_none() {
         roster.put(cert);

@@ -65,7 +65,7 @@ pub fn certificate(of: u8, port: u16, key: PublicKey) -> CertBody
     CertBody {
         member: member(of),
         port: port.max(1),
-        key,
+        key: records::Key::Lms(key),
     }
 }
 
@@ -207,9 +207,9 @@ impl Scene {
             rec,
         ) {
             Err(fault) => Ok(Some(fault)),
-            Ok(checked) if checked.rec().body == body && *checked.key() == self.key(by)? => {
-                Ok(None)
-            }
+            Ok(checked)
+                if checked.rec().body == body
+                    && *checked.key() == records::Key::Lms(self.key(by)?) => { Ok(None) }
             Ok(_) => Err("checked is another record, or under another key".into()),
         }
     }

@@ -8,7 +8,7 @@ use ff_ids::{Epoch, Fault, Group, Mask, MemberId, NoteBody};
 use fields::Bytes;
 use lms_tree::PublicKey;
 use membership::{Changes, Membership};
-use records::{Body, CertBody, Record};
+use records::{Body, CertBody, Key, Record};
 use ring_order::hash_places;
 use std::alloc::Global;
 use std::test::Fail;
@@ -40,7 +40,7 @@ pub fn certificate(member: u8, port: u16, key: &PublicKey) -> CertBody
     CertBody {
         member: MemberId::new(member as u16),
         port,
-        key: *key,
+        key: Key::Lms(*key),
     }
 }
 
