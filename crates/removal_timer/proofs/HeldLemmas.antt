@@ -19,7 +19,7 @@ use Rattle.ff_ids.specs.Steps.{is_due, with_kept}
 use Rattle.removal_timer.specs.declared.queue.TheConstants.{END}
 use Rattle.removal_timer.specs.Queue.{first_number, is_queued, without}
 use Rattle.removal_timer.specs.declared.tally.Tallies.{Tallies}
-use Rattle.removal_timer.specs.Kept.{Kept, entry_at, entries_in, since_at, pair_number, HasGained, IsOwn, AreInTime, AreQueued, AreUntil, IsHeld}
+use Rattle.removal_timer.specs.Kept.{Kept, entry_at, entries_in, since_at, slot_number, HasGained, IsOwn, AreInTime, AreQueued, AreUntil, IsHeld}
 use Rattle.removal_timer.proofs.QueueLemmas.{Apart, Apart-absent, All-without, All-more}
 use Rattle.removal_timer.proofs.SlotLemmas.{Entry, Slots, slots_all, all_slots, none_filled, some_filled, none_due, entry_at-slot, entries_in-filled, due_taken, due_left, all_left}
 
@@ -105,8 +105,8 @@ All-until slots n p (m ∷ order) lt apart until =
 
 -- ---- a slot is emptied, or filled
 
-pub AreQueued-emptied : (slots : Slots) (order : List ℕ) (n : ℕ) → AreQueued slots order → n < length slots → AreQueued (set slots n None) (without n order)
-AreQueued-emptied slots order n h lt =
+pub AreQueued-emptied : (rings : ℕ) (slots : Slots) (order : List ℕ) (n : ℕ) → AreQueued rings slots order → n < length slots → AreQueued rings (set slots n None) (without n order)
+AreQueued-emptied rings slots order n h lt =
     record {
       few = omega (arith, length-set slots n None, h.few);
       own = λ m. own_by lt m (eqb m n) refl;
@@ -114,7 +114,7 @@ AreQueued-emptied slots order n h lt =
       in_time = AreInTime-set slots n None (without n order) (Apart-without n order) (AreInTime-without slots n order h.in_time);
     }
   where
-    own_by : n < length slots → (m : ℕ) (b : Bool) → eqb m n ≡ b → IfSome (get_or (set slots n None) m None) (IsOwn m)
+    own_by : n < length slots → (m : ℕ) (b : Bool) → eqb m n ≡ b → IfSome (get_or (set slots n None) m None) (IsOwn rings m)
     own_by lt m true same =
         let e : get_or (set slots n None) m None ≡ None = subst (λ k. get_or (set slots n None) k None ≡ None) (sym (eqb-true m n same)) (get_or-set_same slots n None None lt) in
         rw e tt
@@ -127,8 +127,8 @@ AreQueued-emptied slots order n h lt =
     filled_by lt m false other =
         ap (λ b. is_queued order m && not b) other ∙ and-true (is_queued order m) ∙ h.filled m ∙ sym (ap is_some (get_or-set_other slots n m None None (eqb-false m n other)))
 
-pub AreQueued-filled : (slots : Slots) (order : List ℕ) (n : ℕ) (p : Entry) → AreQueued slots order → n < length slots → get_or slots n None ≡ None → IsOwn n p → AreUntil p.1 (entries_in slots) → AreQueued (set slots n (Some p)) (order ++ n ∷ [])
-AreQueued-filled slots order n p h lt free own until =
+pub AreQueued-filled : (rings : ℕ) (slots : Slots) (order : List ℕ) (n : ℕ) (p : Entry) → AreQueued rings slots order → n < length slots → get_or slots n None ≡ None → IsOwn rings n p → AreUntil p.1 (entries_in slots) → AreQueued rings (set slots n (Some p)) (order ++ n ∷ [])
+AreQueued-filled rings slots order n p h lt free own until =
     let away : Apart n order = Apart-absent n order (h.filled n ∙ ap is_some free) in
     record {
       few = omega (arith, length-set slots n (Some p), h.few);
@@ -140,8 +140,8 @@ AreQueued-filled slots order n p h lt free own until =
     at : n < length slots → (m : ℕ) → eqb m n ≡ true → get_or (set slots n (Some p)) m None ≡ Some p
     at lt m same = subst (λ k. get_or (set slots n (Some p)) k None ≡ Some p) (sym (eqb-true m n same)) (get_or-set_same slots n (Some p) None lt)
 
-    own_by : n < length slots → (m : ℕ) (b : Bool) → eqb m n ≡ b → IfSome (get_or (set slots n (Some p)) m None) (IsOwn m)
-    own_by lt m true same = rw (at lt m same) (subst (λ k. IsOwn k p) (sym (eqb-true m n same)) own)
+    own_by : n < length slots → (m : ℕ) (b : Bool) → eqb m n ≡ b → IfSome (get_or (set slots n (Some p)) m None) (IsOwn rings m)
+    own_by lt m true same = rw (at lt m same) (subst (λ k. IsOwn rings k p) (sym (eqb-true m n same)) own)
     own_by lt m false other = rw (get_or-set_other slots n m (Some p) None (eqb-false m n other)) (h.own m)
 
     filled_by : n < length slots → (m : ℕ) (b : Bool) → eqb m n ≡ b → (is_queued order m || eqb n m) ≡ is_some (get_or (set slots n (Some p)) m None)
@@ -152,8 +152,8 @@ AreQueued-filled slots order n p h lt free own until =
         let e : eqb n m ≡ false = grind (arith, nat_tests) in
         ap (λ b. is_queued order m || b) e ∙ or-false (is_queued order m) ∙ h.filled m ∙ sym (ap is_some (get_or-set_other slots n m (Some p) None (eqb-false m n other)))
 
-pub AreQueued-none : AreQueued [] []
-AreQueued-none = record { few = omega arith; own = λ n. tt; filled = λ n. refl; in_time = tt }
+pub AreQueued-none : (rings : ℕ) → AreQueued rings [] []
+AreQueued-none rings = record { few = omega arith; own = λ n. tt; filled = λ n. refl; in_time = tt }
 
 -- ---- the slots reach further
 
@@ -188,16 +188,16 @@ push-none (x ∷ slots) zero = refl
 push-none (x ∷ slots) (suc n) = push-none slots n
 
 -- what the slots hold that reach further
-pub record IsReached (slots after : Slots) (order : List ℕ) : Type 0 where
-  pub queued : AreQueued after order
+pub record IsReached (rings : ℕ) (slots after : Slots) (order : List ℕ) : Type 0 where
+  pub queued : AreQueued rings after order
   pub entries : entries_in after ≡ entries_in slots
 
-pub IsReached-of : (slots after : Slots) (order : List ℕ) → AreQueued slots order → length after ≤ END → ((n : ℕ) → get_or after n None ≡ get_or slots n None) → IsReached slots after order
-IsReached-of slots after order h few same =
+pub IsReached-of : (rings : ℕ) (slots after : Slots) (order : List ℕ) → AreQueued rings slots order → length after ≤ END → ((n : ℕ) → get_or after n None ≡ get_or slots n None) → IsReached rings slots after order
+IsReached-of rings slots after order h few same =
     record {
       queued = record {
         few = few;
-        own = λ n. subst (λ (o : Option Entry). IfSome o (IsOwn n)) (sym (same n)) (h.own n);
+        own = λ n. subst (λ (o : Option Entry). IfSome o (IsOwn rings n)) (sym (same n)) (h.own n);
         filled = λ n. h.filled n ∙ ap is_some (sym (same n));
         in_time = AreInTime-same slots after order same h.in_time;
       };
@@ -210,8 +210,8 @@ nobody : (order : List ℕ) → first_number order ≡ None → order ≡ []
 nobody [] h = refl
 nobody (n ∷ order) h = cc
 
-pub nothing_filled : (slots : Slots) (order : List ℕ) → AreQueued slots order → first_number order ≡ None → entries_in slots ≡ []
-nothing_filled slots order h first = none_filled slots (λ n. sym (h.filled n) ∙ ap (λ (q : List ℕ). is_queued q n) (nobody order first))
+pub nothing_filled : (rings : ℕ) (slots : Slots) (order : List ℕ) → AreQueued rings slots order → first_number order ≡ None → entries_in slots ≡ []
+nothing_filled rings slots order h first = none_filled slots (λ n. sym (h.filled n) ∙ ap (λ (q : List ℕ). is_queued q n) (nobody order first))
 
 pub first_queued : (order : List ℕ) (n : ℕ) → first_number order ≡ Some n → is_queued order n ≡ true
 first_queued [] n e = cc
@@ -221,16 +221,16 @@ first_queued (m ∷ order) n e =
     ap (λ b. b || is_queued order n) here
 
 -- whether nothing is filled shows at the first of the queue
-pub empty_value : (slots : Slots) (order : List ℕ) (first : Option ℕ) (b : Bool) → AreQueued slots order → first ≡ first_number order → is_some first ≡ not b → b ≡ eqb (length (entries_in slots)) 0
-empty_value slots [] first b h e is = by_answer b (ap is_some (sym e) ∙ is)
+pub empty_value : (rings : ℕ) (slots : Slots) (order : List ℕ) (first : Option ℕ) (b : Bool) → AreQueued rings slots order → first ≡ first_number order → is_some first ≡ not b → b ≡ eqb (length (entries_in slots)) 0
+empty_value rings slots [] first b h e is = by_answer b (ap is_some (sym e) ∙ is)
   where
     none : entries_in slots ≡ []
-    none = nothing_filled slots [] h refl
+    none = nothing_filled rings slots [] h refl
 
     by_answer : (b : Bool) → false ≡ not b → b ≡ eqb (length (entries_in slots)) 0
     by_answer true same = rw none refl
     by_answer false same = absurd (true≢false (sym same))
-empty_value slots (n ∷ order) first b h e is = by_answer b (ap is_some (sym e) ∙ is)
+empty_value rings slots (n ∷ order) first b h e is = by_answer b (ap is_some (sym e) ∙ is)
   where
     some : 0 < length (entries_in slots)
     some = some_filled slots n (sym (h.filled n) ∙ first_queued (n ∷ order) n refl)
@@ -269,8 +269,8 @@ pub not_due : (timeout now first : ℕ) (p : Entry) → first ≤ p.1 → nat_le
 not_due timeout now first p le h = grind (arith, nat_tests)
 
 -- where the first isn't due, none is
-pub nothing_due : (timeout now : ℕ) (slots : Slots) (order : List ℕ) (n : ℕ) (p : Entry) → AreQueued slots order → first_number order ≡ Some n → get_or slots n None ≡ Some p → is_due timeout now p ≡ false → filter (is_due timeout now) (entries_in slots) ≡ []
-nothing_due timeout now slots order n p h first there late =
+pub nothing_due : (rings : ℕ) (timeout now : ℕ) (slots : Slots) (order : List ℕ) (n : ℕ) (p : Entry) → AreQueued rings slots order → first_number order ≡ Some n → get_or slots n None ≡ Some p → is_due timeout now p ≡ false → filter (is_due timeout now) (entries_in slots) ≡ []
+nothing_due rings timeout now slots order n p h first there late =
     none_due (is_due timeout now) (entries_in slots) (all_slots (λ q. is_due timeout now q ≡ false) slots (λ m. each m (get_or slots m None) refl))
   where
     each : (m : ℕ) (o : Option Entry) → get_or slots m None ≡ o → IfSome o (λ q. is_due timeout now q ≡ false)
@@ -285,46 +285,46 @@ nothing_due timeout now slots order n p h first there late =
 -- ---- what one call does
 
 -- an entry was set that wasn't there
-pub record IsSet (slots : Slots) (order : List ℕ) (n : ℕ) (p : Entry) : Type 0 where
+pub record IsSet (rings : ℕ) (slots : Slots) (order : List ℕ) (n : ℕ) (p : Entry) : Type 0 where
   pub free : get_or slots n None ≡ None
   pub absent : is_queued order n ≡ false
-  pub queued : AreQueued (set slots n (Some p)) (order ++ n ∷ [])
+  pub queued : AreQueued rings (set slots n (Some p)) (order ++ n ∷ [])
   pub entries : entries_in (set slots n (Some p)) ≡ with_kept p (entries_in slots)
 
-pub IsSet-free : (slots : Slots) (order : List ℕ) (n : ℕ) (p : Entry) → AreQueued slots order → n ≡ pair_number p.0.accused p.0.ring.0 → n < length slots → p.0.ring.0 < MAX_RINGS → entry_at p.0.accused p.0.ring.0 (entries_in slots) ≡ None → AreUntil p.1 (entries_in slots) → IsSet slots order n p
-IsSet-free slots order n p h number low ring free until =
-    let at = entry_at-slot p.0.accused p.0.ring.0 slots h.own ring in
+pub IsSet-free : (rings : ℕ) (slots : Slots) (order : List ℕ) (n : ℕ) (p : Entry) → AreQueued rings slots order → n ≡ slot_number rings p.0.accused p.0.ring.0 → n < length slots → rings ≤ MAX_RINGS → p.0.ring.0 < rings → entry_at p.0.accused p.0.ring.0 (entries_in slots) ≡ None → AreUntil p.1 (entries_in slots) → IsSet rings slots order n p
+IsSet-free rings slots order n p h number low few ring free until =
+    let at = entry_at-slot rings p.0.accused p.0.ring.0 slots h.own ring in
     let empty : get_or slots n None ≡ None = ap (λ k. get_or slots k None) number ∙ sym at ∙ free in
-    let own : IsOwn n p = record { ring = ring; number = sym number } in
+    let own : IsOwn rings n p = record { few = few; ring = ring; number = sym number } in
     record {
       free = empty;
       absent = h.filled n ∙ ap is_some empty;
-      queued = AreQueued-filled slots order n p h low empty own until;
-      entries = entries_in-filled slots n p h.own empty low own;
+      queued = AreQueued-filled rings slots order n p h low empty own until;
+      entries = entries_in-filled rings slots n p h.own empty low own;
     }
 
 -- the same, where the timers are seen whole, and the slots were made to reach the number
-pub IsSet-of : (rings timeout room : ℕ) (slots after : Slots) (order : List ℕ) (tallies : Tallies) (k : Kept) (n : ℕ) (p : Entry) → IsHeld rings slots order tallies room → record { rings = rings; timeout = timeout; entries = entries_in slots } ≡ k → length after ≤ END → ((n : ℕ) → get_or after n None ≡ get_or slots n None) → n ≡ pair_number p.0.accused p.0.ring.0 → n < length after → entry_at p.0.accused p.0.ring.0 k.entries ≡ None → p.0.ring.0 < k.rings → AreUntil p.1 k.entries → IsSet after order n p × (entries_in after ≡ k.entries)
+pub IsSet-of : (rings timeout room : ℕ) (slots after : Slots) (order : List ℕ) (tallies : Tallies) (k : Kept) (n : ℕ) (p : Entry) → IsHeld rings slots order tallies room → record { rings = rings; timeout = timeout; entries = entries_in slots } ≡ k → length after ≤ END → ((n : ℕ) → get_or after n None ≡ get_or slots n None) → n ≡ slot_number rings p.0.accused p.0.ring.0 → n < length after → entry_at p.0.accused p.0.ring.0 k.entries ≡ None → p.0.ring.0 < k.rings → AreUntil p.1 k.entries → IsSet rings after order n p × (entries_in after ≡ k.entries)
 IsSet-of rings timeout room slots after order tallies k n p held view few alike number low free within until =
-    let ring : p.0.ring.0 < MAX_RINGS = omega (arith, within, ap (λ (k : Kept). k.rings) view, held.few) in
-    let reached = IsReached-of slots after order held.queued few alike in
+    let ring : p.0.ring.0 < rings = omega (arith, within, ap (λ (k : Kept). k.rings) view) in
+    let reached = IsReached-of rings slots after order held.queued few alike in
     let same : entries_in after ≡ k.entries = reached.entries ∙ ap (λ (k : Kept). k.entries) view in
-    (IsSet-free after order n p reached.queued number low ring (ap (entry_at p.0.accused p.0.ring.0) same ∙ free) (subst (λ (es : List Entry). AreUntil p.1 es) (sym same) until), same)
+    (IsSet-free rings after order n p reached.queued number low held.few ring (ap (entry_at p.0.accused p.0.ring.0) same ∙ free) (subst (λ (es : List Entry). AreUntil p.1 es) (sym same) until), same)
 
 -- the entries that were due are taken one after another
-pub record IsTaking (timeout now : ℕ) (start slots : Slots) (order : List ℕ) (before after : List AccBody) : Type 0 where
-  pub queued : AreQueued slots order
+pub record IsTaking (rings : ℕ) (timeout now : ℕ) (start slots : Slots) (order : List ℕ) (before after : List AccBody) : Type 0 where
+  pub queued : AreQueued rings slots order
   pub left : filter (λ p. not (is_due timeout now p)) (entries_in slots) ≡ filter (λ p. not (is_due timeout now p)) (entries_in start)
   pub added : List AccBody
   pub behind : after ≡ before ++ added
   pub moved : IsPermutation (map (λ p. p.0) (filter (is_due timeout now) (entries_in start))) (added ++ map (λ p. p.0) (filter (is_due timeout now) (entries_in slots)))
 
-pub IsTaking-start : (timeout now : ℕ) (slots : Slots) (order : List ℕ) (before : List AccBody) → AreQueued slots order → IsTaking timeout now slots slots order before before
-IsTaking-start timeout now slots order before h =
+pub IsTaking-start : (rings : ℕ) (timeout now : ℕ) (slots : Slots) (order : List ℕ) (before : List AccBody) → AreQueued rings slots order → IsTaking rings timeout now slots slots order before before
+IsTaking-start rings timeout now slots order before h =
     record { queued = h; left = refl; added = []; behind = sym (append-nil before); moved = IsPermutation-refl (map (λ p. p.0) (filter (is_due timeout now) (entries_in slots))) }
 
-pub IsTaking-more : (timeout now : ℕ) (start slots : Slots) (order : List ℕ) (before after : List AccBody) (n : ℕ) (p : Entry) → IsTaking timeout now start slots order before after → get_or slots n None ≡ Some p → is_due timeout now p ≡ true → AreQueued (set slots n None) (without n order) → IsTaking timeout now start (set slots n None) (without n order) before (after ++ p.0 ∷ [])
-IsTaking-more timeout now start slots order before after n p h there due queued =
+pub IsTaking-more : (rings : ℕ) (timeout now : ℕ) (start slots : Slots) (order : List ℕ) (before after : List AccBody) (n : ℕ) (p : Entry) → IsTaking rings timeout now start slots order before after → get_or slots n None ≡ Some p → is_due timeout now p ≡ true → AreQueued rings (set slots n None) (without n order) → IsTaking rings timeout now start (set slots n None) (without n order) before (after ++ p.0 ∷ [])
+IsTaking-more rings timeout now start slots order before after n p h there due queued =
     let taken = due_taken (is_due timeout now) slots n p there due in
     let accs = IsPermutation-map (λ (q : Entry). q.0) _ _ taken in
     record {
@@ -339,8 +339,8 @@ pub fewer_due : (timeout now : ℕ) (slots : Slots) (n : ℕ) (p : Entry) → ge
 fewer_due timeout now slots n p there due =
     omega (arith, length_permutation _ _ (due_taken (is_due timeout now) slots n p there due))
 
-pub IsTaking-end : (timeout now : ℕ) (start slots : Slots) (order : List ℕ) (before after : List AccBody) → IsTaking timeout now start slots order before after → filter (is_due timeout now) (entries_in slots) ≡ [] → HasGained before after (map (λ p. p.0) (filter (is_due timeout now) (entries_in start))) × (entries_in slots ≡ filter (λ p. not (is_due timeout now p)) (entries_in start))
-IsTaking-end timeout now start slots order before after h none =
+pub IsTaking-end : (rings : ℕ) (timeout now : ℕ) (start slots : Slots) (order : List ℕ) (before after : List AccBody) → IsTaking rings timeout now start slots order before after → filter (is_due timeout now) (entries_in slots) ≡ [] → HasGained before after (map (λ p. p.0) (filter (is_due timeout now) (entries_in start))) × (entries_in slots ≡ filter (λ p. not (is_due timeout now p)) (entries_in start))
+IsTaking-end rings timeout now start slots order before after h none =
     let all : IsPermutation (map (λ p. p.0) (filter (is_due timeout now) (entries_in start))) (h.added ++ []) =
     subst (λ (xs : List Entry). IsPermutation (map (λ p. p.0) (filter (is_due timeout now) (entries_in start))) (h.added ++ map (λ p. p.0) xs)) none h.moved in (
       record { added = h.added; behind = h.behind; moved = subst (IsPermutation (map (λ p. p.0) (filter (is_due timeout now) (entries_in start)))) (append-nil h.added) all },

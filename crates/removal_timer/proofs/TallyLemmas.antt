@@ -88,26 +88,26 @@ counts_more counts test of is slots n p free within long number same m lt =
           omega (arith, get_or-set_other counts (of p) m (get_or counts (of p) 0 + 1) 0 apart, same m lt, more, ap one off)
     ]
 
-pub AreTallied-less : (slots : Slots) (n : ℕ) (p : Entry) (t : Tallies) → AreTallied (entries_in slots) t → AreOwn slots → AreOwn (set slots n None) → IsOwn n p → get_or slots n None ≡ Some p → n < length slots → p.0.accused < MEMBERS → p.0.accuser < MEMBERS → AreTallied (entries_in (set slots n None)) (one_less p.0 t)
-AreTallied-less slots n p t h before after own there within accused accuser =
+pub AreTallied-less : (rings : ℕ) (slots : Slots) (n : ℕ) (p : Entry) (t : Tallies) → AreTallied (entries_in slots) t → AreOwn rings slots → AreOwn rings (set slots n None) → IsOwn rings n p → get_or slots n None ≡ Some p → n < length slots → p.0.accused < MEMBERS → p.0.accuser < MEMBERS → AreTallied (entries_in (set slots n None)) (one_less p.0 t)
+AreTallied-less rings slots n p t h before after own there within accused accuser =
     record {
       against_long = length-set t.against p.0.accused (get_or t.against p.0.accused 0 - 1) ∙ h.against_long;
       by_long = length-set t.by p.0.accuser (get_or t.by p.0.accuser 0 - 1) ∙ h.by_long;
       against = counts_less t.against is_against (λ q. q.0.accused) (λ m q. refl) slots n p there h.against_long accused h.against;
       by = counts_less t.by is_by (λ q. q.0.accuser) (λ m q. refl) slots n p there h.by_long accuser h.by;
       marks_long = length-set t.marks p.0.accused (get_or t.marks p.0.accused 0 - 2 ^ p.0.ring.0) ∙ h.marks_long;
-      marks = marks-less slots n p t.marks h.marks before after own there within h.marks_long accused;
+      marks = marks-less rings slots n p t.marks h.marks before after own there within h.marks_long accused;
     }
 
-pub AreTallied-more : (slots : Slots) (n : ℕ) (p : Entry) (t : Tallies) → AreTallied (entries_in slots) t → AreOwn slots → AreOwn (set slots n (Some p)) → IsOwn n p → get_or slots n None ≡ None → n < length slots → p.0.accused < MEMBERS → p.0.accuser < MEMBERS → AreTallied (entries_in (set slots n (Some p))) (one_more p.0 t)
-AreTallied-more slots n p t h before after own free within accused accuser =
+pub AreTallied-more : (rings : ℕ) (slots : Slots) (n : ℕ) (p : Entry) (t : Tallies) → AreTallied (entries_in slots) t → AreOwn rings slots → AreOwn rings (set slots n (Some p)) → IsOwn rings n p → get_or slots n None ≡ None → n < length slots → p.0.accused < MEMBERS → p.0.accuser < MEMBERS → AreTallied (entries_in (set slots n (Some p))) (one_more p.0 t)
+AreTallied-more rings slots n p t h before after own free within accused accuser =
     record {
       against_long = length-set t.against p.0.accused (get_or t.against p.0.accused 0 + 1) ∙ h.against_long;
       by_long = length-set t.by p.0.accuser (get_or t.by p.0.accuser 0 + 1) ∙ h.by_long;
       against = counts_more t.against is_against (λ q. q.0.accused) (λ m q. refl) slots n p free within h.against_long accused h.against;
       by = counts_more t.by is_by (λ q. q.0.accuser) (λ m q. refl) slots n p free within h.by_long accuser h.by;
       marks_long = length-set t.marks p.0.accused (get_or t.marks p.0.accused 0 + 2 ^ p.0.ring.0) ∙ h.marks_long;
-      marks = marks-more slots n p t.marks h.marks before after own free within h.marks_long accused;
+      marks = marks-more rings slots n p t.marks h.marks before after own free within h.marks_long accused;
     }
 
 -- a count is positive where there is one

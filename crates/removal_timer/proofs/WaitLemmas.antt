@@ -12,8 +12,8 @@ use Rattle.removal_timer.proofs.SlotLemmas.{Entry, Slots, all_slots, none_due}
 use Rattle.removal_timer.proofs.HeldLemmas.{in_time_first, not_due}
 
 -- none stands longer than the first of the queue
-pub first-since : (slots : Slots) (order : List ℕ) (n : ℕ) (p : Entry) → AreQueued slots order → first_number order ≡ Some n → get_or slots n None ≡ Some p → AllByRecursion (λ q. p.1 ≤ q.1) (entries_in slots)
-first-since slots order n p h first there = all_slots (λ q. p.1 ≤ q.1) slots (λ m. each m (get_or slots m None) refl)
+pub first-since : (rings : ℕ) (slots : Slots) (order : List ℕ) (n : ℕ) (p : Entry) → AreQueued rings slots order → first_number order ≡ Some n → get_or slots n None ≡ Some p → AllByRecursion (λ q. p.1 ≤ q.1) (entries_in slots)
+first-since rings slots order n p h first there = all_slots (λ q. p.1 ≤ q.1) slots (λ m. each m (get_or slots m None) refl)
   where
     each : (m : ℕ) (o : Option Entry) → get_or slots m None ≡ o → IfSome o (λ q. p.1 ≤ q.1)
     each m None e = tt

@@ -46,6 +46,10 @@ pub record HasGained (before after gained : List AccBody) : Type 0 where
 abbrev pub pair_number : ℕ → ℕ → ℕ
 pair_number accused ring = MAX_RINGS * accused + ring
 
+-- The number of the slot of a member and a ring, where there are so many rings.
+abbrev pub slot_number : ℕ → ℕ → ℕ → ℕ
+slot_number rings accused ring = accused * rings + ring
+
 -- Each comes before all later ones by its number.
 abbrev pub AreRising : List AccBody → Type 0
 AreRising [] = Unit {0}
@@ -64,10 +68,11 @@ slot_at slots n = slice_index_or slots n None
 abbrev pub since_at : List (Option (AccBody × ℕ)) → ℕ → ℕ
 since_at slots n = option_map_or (λ p. p.1) (slot_at slots n) 0
 
--- The entry is in the slot of its member and ring.
-pub record IsOwn (n : ℕ) (p : AccBody × ℕ) : Type 0 where
-  pub ring : p.0.ring.0 < MAX_RINGS
-  pub number : pair_number p.0.accused p.0.ring.0 ≡ n
+-- The entry is in the slot of its member and ring, which is one of so many rings.
+pub record IsOwn (rings n : ℕ) (p : AccBody × ℕ) : Type 0 where
+  pub few : rings ≤ MAX_RINGS
+  pub ring : p.0.ring.0 < rings
+  pub number : slot_number rings p.0.accused p.0.ring.0 ≡ n
 
 -- None stands since later than those behind it.
 abbrev pub AreInTime : List (Option (AccBody × ℕ)) → List ℕ → Type 0
@@ -76,9 +81,9 @@ AreInTime slots (n ∷ order) = AllByRecursion (λ m. since_at slots n ≤ since
 
 -- There are slots up to that of some member and ring, and the numbers of those that are filled are queued, in order of the time
 -- since when their entries stand.
-pub record AreQueued (slots : List (Option (AccBody × ℕ))) (order : List ℕ) : Type 0 where
+pub record AreQueued (rings : ℕ) (slots : List (Option (AccBody × ℕ))) (order : List ℕ) : Type 0 where
   pub few : length slots ≤ END
-  pub own : (n : ℕ) → IfSome (slot_at slots n) (IsOwn n)
+  pub own : (n : ℕ) → IfSome (slot_at slots n) (IsOwn rings n)
   pub filled : (n : ℕ) → is_queued order n ≡ is_some (slot_at slots n)
   pub in_time : AreInTime slots order
 
@@ -86,5 +91,5 @@ pub record AreQueued (slots : List (Option (AccBody × ℕ))) (order : List ℕ)
 pub record IsHeld (rings : ℕ) (slots : List (Option (AccBody × ℕ))) (order : List ℕ) (tallies : Tallies) (capacity : ℕ) : Type 0 where
   pub few : rings ≤ MAX_RINGS
   pub room : END ≤ capacity
-  pub queued : AreQueued slots order
+  pub queued : AreQueued rings slots order
   pub tallied : AreTallied (entries_in slots) tallies

@@ -11,7 +11,7 @@ ghost use Rattle.ff_ids.specs.declared.TheConstants.{MAX_RINGS, MAX_TOLERANCE};
 ghost use Rattle.ff_ids.specs.declared.AccBody.{AccBody as Accusation};
 ghost use Rattle.ff_ids.specs.Masks.{ring_count};
 ghost use Rattle.ff_ids.specs.Steps.{is_due, with_kept};
-ghost use Rattle.removal_timer.specs.Kept.{entry_at, is_at, entries_in, slot_at, pair_number, AreQueued, AreRising, AreUntil, HasGained};
+ghost use Rattle.removal_timer.specs.Kept.{entry_at, is_at, entries_in, slot_at, pair_number, slot_number, AreQueued, AreRising, AreUntil, HasGained};
 ghost use Rattle.removal_timer.specs.Queue.{is_queued, without};
 ghost use Rattle.removal_timer.specs.Tally.{is_against, is_by, AreTallied};
 
@@ -35,7 +35,7 @@ type Entry = (AccBody, u64);
 pub struct Timers {
     rings: u8,
     timeout: u32,
-    /// By the number of the member and the ring, up to the greatest at which something stood.
+    /// By the number of the member and the ring among the group's, up to the greatest at which something stood.
     slots: Vec<Option<Entry>>,
     /// The numbers of the filled slots, in order of the time since when their entries stand.
     queue: Queue,
@@ -59,10 +59,19 @@ impl Model for Timers {
 
 /// The number of the member and the ring among all pairs of them.
 fn number_of(accused: MemberId, ring: RingNo) -> u16
-    ensures value { result ≡ pair_number accused ring.0 }
-    ensures range { ring.0 < MAX_RINGS → result < END }
+    ensures { result ≡ pair_number accused ring.0 }
 {
     u16::from(MAX_RINGS) * accused.get() + u16::from(ring.0)
+}
+
+/// The number of the slot of the member and the ring, where there are so many rings: no more slots lie between those of
+/// two members than the group has rings.
+fn slot_of(rings: u8, accused: MemberId, ring: RingNo) -> u16
+    requires { rings ≤ MAX_RINGS }
+    ensures value { result ≡ slot_number rings accused ring.0 }
+    ensures range { ring.0 < rings → result < END }
+{
+    accused.get() * u16::from(rings) + u16::from(ring.0)
 }
 
 fn is_due(entry: &Entry, timeout: u32, now: u64) -> bool
@@ -102,18 +111,19 @@ fn reach(slots: &mut Vec<Option<Entry>>, number: u16)
 
 /// Empties the slot of this number, and gives what was in it.
 fn take_out(
+    _rings: u8,
     slots: &mut [Option<Entry>],
     queue: &mut Queue,
     tallies: &mut Tallies,
     number: u16,
 ) -> Option<Entry>
-    requires queued { AreQueued slots.old queue.old }
+    requires queued { AreQueued _rings slots.old queue.old }
     requires tallied { AreTallied (entries_in slots.old) tallies.old }
     requires range { number < END }
     ensures value { result ≡ slot_at slots.old number }
     ensures emptied { slots.new ≡ slice_set slots.old number None }
     ensures left { queue.new ≡ without number queue.old }
-    ensures queued { AreQueued slots.new queue.new }
+    ensures queued { AreQueued _rings slots.new queue.new }
     ensures tallied { AreTallied (entries_in slots.new) tallies.new }
 {
     match kept_in(slots, number) {
@@ -128,21 +138,27 @@ fn take_out(
 }
 
 /// Empties each slot that is filled.
-fn take_all(slots: &mut [Option<Entry>], queue: &mut Queue, tallies: &mut Tallies)
-    requires queued { AreQueued slots.old queue.old }
+fn take_all(rings: u8, slots: &mut [Option<Entry>], queue: &mut Queue, tallies: &mut Tallies)
+    requires queued { AreQueued rings slots.old queue.old }
     requires tallied { AreTallied (entries_in slots.old) tallies.old }
     ensures none { entries_in slots.new ≡ [] }
-    ensures queued { AreQueued slots.new queue.new }
+    ensures queued { AreQueued rings slots.new queue.new }
     ensures tallied { AreTallied (entries_in slots.new) tallies.new }
 {
     while let Some(number) = queue.first() {
-        take_out(slots, queue, tallies, number);
+        take_out(rings, slots, queue, tallies, number);
     }
 }
 
 /// The number of the entry that stands for the longest time, if that is due.
-fn first_due(slots: &[Option<Entry>], queue: &Queue, timeout: u32, now: u64) -> Option<u16>
-    requires { AreQueued slots.now queue.now }
+fn first_due(
+    _rings: u8,
+    slots: &[Option<Entry>],
+    queue: &Queue,
+    timeout: u32,
+    now: u64,
+) -> Option<u16>
+    requires { AreQueued _rings slots.now queue.now }
     ensures range { IfSome result (λ n. n < END) }
     ensures filled { IfSome result (λ n. is_some (slot_at slots.now n) ≡ true) }
     ensures due { IfSome result
@@ -159,8 +175,8 @@ fn first_due(slots: &[Option<Entry>], queue: &Queue, timeout: u32, now: u64) -> 
 }
 
 /// Since when the entry stands that stands for the longest time.
-fn first_since(slots: &[Option<Entry>], queue: &Queue) -> Option<u64>
-    requires { AreQueued slots.now queue.now }
+fn first_since(_rings: u8, slots: &[Option<Entry>], queue: &Queue) -> Option<u64>
+    requires { AreQueued _rings slots.now queue.now }
     ensures none { IsNone result → entries_in slots.now ≡ [] }
     ensures first { IfSome result
         (λ since. AllByRecursion (λ p. since ≤ p.1) (entries_in slots.now)) }
@@ -189,6 +205,7 @@ fn ticks_before(timeout: u32, since: u64, now: u64, most: u32) -> u32
 /// Takes out the entries that are due, and appends them, those first that stand for the longest time. Only these are
 /// looked at, and the one behind them.
 fn take_due(
+    rings: u8,
     slots: &mut [Option<Entry>],
     queue: &mut Queue,
     tallies: &mut Tallies,
@@ -196,7 +213,7 @@ fn take_due(
     now: u64,
     out: &mut Vec<AccBody>,
 )
-    requires queued { AreQueued slots.old queue.old }
+    requires queued { AreQueued rings slots.old queue.old }
     requires tallied { AreTallied (entries_in slots.old) tallies.old }
     requires room { vec_len out.old + length
         (filter (is_due timeout now) (entries_in slots.old)) ≤ vec_capacity out.old }
@@ -204,12 +221,12 @@ fn take_due(
         (map (λ p. p.0) (filter (is_due timeout now) (entries_in slots.old))) }
     ensures left { entries_in slots.new
         ≡ filter (λ p. not (is_due timeout now p)) (entries_in slots.old) }
-    ensures queued { AreQueued slots.new queue.new }
+    ensures queued { AreQueued rings slots.new queue.new }
     ensures tallied { AreTallied (entries_in slots.new) tallies.new }
     ensures capacity { vec_capacity out.old ≤ vec_capacity out.new }
 {
-    while let Some(number) = first_due(slots, queue, timeout, now) {
-        if let Some((acc, _since)) = take_out(slots, queue, tallies, number) {
+    while let Some(number) = first_due(rings, slots, queue, timeout, now) {
+        if let Some((acc, _since)) = take_out(rings, slots, queue, tallies, number) {
             out.push_reserved(acc);
         }
     }
@@ -250,7 +267,7 @@ impl Timers {
         requires in_time { AreUntil now self.old.entries }
         ensures { self.new ≡ record self.old { entries = with_kept (acc, now) self.old.entries } }
     {
-        let number = number_of(acc.accused, acc.ring);
+        let number = slot_of(self.rings, acc.accused, acc.ring);
         reach(&mut self.slots, number);
         self.tallies.add(&acc);
         self.slots[number as usize] = Some((acc, now));
@@ -263,12 +280,13 @@ impl Timers {
             ≡ record self.old
             { entries = filter (λ p. not (is_at accused ring.0 p)) self.old.entries } }
     {
-        if ring.0 < MAX_RINGS {
+        if ring.0 < self.rings {
             take_out(
+                self.rings,
                 &mut self.slots,
                 &mut self.queue,
                 &mut self.tallies,
-                number_of(accused, ring),
+                slot_of(self.rings, accused, ring),
             );
         }
     }
@@ -277,7 +295,12 @@ impl Timers {
     pub fn clear_all(&mut self)
         ensures { self.new ≡ record self.old { entries = [] } }
     {
-        take_all(&mut self.slots, &mut self.queue, &mut self.tallies);
+        take_all(
+            self.rings,
+            &mut self.slots,
+            &mut self.queue,
+            &mut self.tallies,
+        );
     }
 
     /// Takes out the accusations that have stood for the timeout, and appends them to `out`, in order. No other is
@@ -295,6 +318,7 @@ impl Timers {
     {
         let from = out.len();
         take_due(
+            self.rings,
             &mut self.slots,
             &mut self.queue,
             &mut self.tallies,
@@ -315,7 +339,7 @@ impl Timers {
         ensures next { result < most
             → 0 < length (filter (is_due self.now.timeout (now + result + 1)) self.now.entries) }
     {
-        match first_since(&self.slots, &self.queue) {
+        match first_since(self.rings, &self.slots, &self.queue) {
             Some(since) => ticks_before(self.timeout, since, now, most),
             None => most,
         }
@@ -333,8 +357,8 @@ impl Timers {
     pub fn standing(&self, accused: MemberId, ring: RingNo) -> Option<(AccBody, u64)>
         ensures { result ≡ entry_at accused ring.0 self.now.entries }
     {
-        if ring.0 < MAX_RINGS && self.tallies.marks.is_set(accused, ring) {
-            kept_in(&self.slots, number_of(accused, ring))
+        if ring.0 < self.rings && self.tallies.marks.is_set(accused, ring) {
+            kept_in(&self.slots, slot_of(self.rings, accused, ring))
         } else {
             None
         }

@@ -7,12 +7,12 @@ use Rattle.removal_timer.proofs.first_since.Goals as goal
 pub returns-in_err-number-clause-none : goal.returns-in_err-number-clause-none
 returns-in_err-number-clause-none c = λ none.
     let first : first_number c.args.queue.now ≡ None = cc in
-    nothing_filled c.args.slots.now c.args.queue.now c.requires first
+    nothing_filled c.args._rings c.args.slots.now c.args.queue.now c.requires first
 
 pub returns-clause-first : goal.returns-clause-first
 returns-clause-first c =
     let first : first_number c.args.queue.now ≡ Some c.in_ok-number.number = cc in
-    first-since c.args.slots.now c.args.queue.now c.in_ok-number.number c.in_ok-entry.entry c.requires first (sym c.kept_in.ensures.value ∙ c.in_ok-entry.was)
+    first-since c.args._rings c.args.slots.now c.args.queue.now c.in_ok-number.number c.in_ok-entry.entry c.requires first (sym c.kept_in.ensures.value ∙ c.in_ok-entry.was)
 
 pub returns-clause-there : goal.returns-clause-there
 returns-clause-there c =

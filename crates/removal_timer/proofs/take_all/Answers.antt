@@ -12,4 +12,4 @@ loop-number-smaller c =
 pub returns-clause-none : goal.returns-clause-none
 returns-clause-none c =
     let first : first_number c.loop-number.queue ≡ None = sym c.first.ensures.value ∙ c.in_default.is in
-    nothing_filled c.loop-number.slots c.loop-number.queue c.loop-number.invariant.queued first
+    nothing_filled c.args.rings c.loop-number.slots c.loop-number.queue c.loop-number.invariant.queued first

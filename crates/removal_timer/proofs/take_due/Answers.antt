@@ -24,8 +24,8 @@ loop-number-preserved-in-Some-take_out c =
     let n = c.in-Some.number in
     let p : Entry = (c.in-Some-take_out.acc, c.in-Some-take_out._since) in
     let at = IsDueAt-taken c.args.timeout c.args.now slots n p c.take_out.result c.in-Some-take_out.is c.take_out.ensures.value c.in-Some.ensures.due in
-    let queued : AreQueued (set slots n None) (without n c.loop-number.queue) = rw (← c.take_out.ensures.emptied, ← c.take_out.ensures.left) c.take_out.ensures.queued in
-    let more = IsTaking-more c.args.timeout c.args.now c.args.slots.now slots c.loop-number.queue c.args.out.now.items c.loop-number.out.items n p c.loop-number.invariant.taking at.there at.due queued in
+    let queued : AreQueued c.args.rings (set slots n None) (without n c.loop-number.queue) = rw (← c.take_out.ensures.emptied, ← c.take_out.ensures.left) c.take_out.ensures.queued in
+    let more = IsTaking-more c.args.rings c.args.timeout c.args.now c.args.slots.now slots c.loop-number.queue c.args.out.now.items c.loop-number.out.items n p c.loop-number.invariant.taking at.there at.due queued in
     let fewer = fewer_due c.args.timeout c.args.now slots n p at.there at.due in
     let left : length (filter (is_due c.args.timeout c.args.now) (entries_in c.take_out.new.slots)) ≡ length (filter (is_due c.args.timeout c.args.now) (entries_in (set slots n None))) =
     ap (λ (xs : Slots). length (filter (is_due c.args.timeout c.args.now) (entries_in xs))) c.take_out.ensures.emptied in
@@ -39,4 +39,4 @@ loop-number-preserved-in-Some-take_out c =
 pub returns-clause-left : goal.returns-clause-left
 returns-clause-left c =
     let none : filter (is_due c.args.timeout c.args.now) (entries_in c.loop-number.slots) ≡ [] = c.first_due.ensures.none (ap is_some c.in_default.is) in
-    (IsTaking-end c.args.timeout c.args.now c.args.slots.now c.loop-number.slots c.loop-number.queue c.args.out.now.items c.loop-number.out.items c.loop-number.invariant.taking none).1
+    (IsTaking-end c.args.rings c.args.timeout c.args.now c.args.slots.now c.loop-number.slots c.loop-number.queue c.args.out.now.items c.loop-number.out.items c.loop-number.invariant.taking none).1

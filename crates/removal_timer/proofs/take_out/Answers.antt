@@ -12,15 +12,15 @@ use Rattle.removal_timer.proofs.take_out.Goals as goal
 pub take-requires-clause-ring : goal.take-requires-clause-ring
 take-requires-clause-ring c =
     let there : get_or c.args.slots.now c.args.number None ≡ Some c.in-Some.entry = sym c.kept_in.ensures.value ∙ c.in-Some.is in
-    let own : IsOwn c.args.number c.in-Some.entry = subst (λ (o : Option Entry). IfSome o (IsOwn c.args.number)) there (c.requires.queued.own c.args.number) in
-    own.ring
+    let own : IsOwn c.args._rings c.args.number c.in-Some.entry = subst (λ (o : Option Entry). IfSome o (IsOwn c.args._rings c.args.number)) there (c.requires.queued.own c.args.number) in
+    omega (arith, own.ring, own.few)
 
 pub take-requires-clause-is_set : goal.take-requires-clause-is_set
 take-requires-clause-is_set c = λ lt.
     let there : get_or c.args.slots.now c.args.number None ≡ Some c.in-Some.entry = sym c.kept_in.ensures.value ∙ c.in-Some.is in
-    let own : IsOwn c.args.number c.in-Some.entry = subst (λ (o : Option Entry). IfSome o (IsOwn c.args.number)) there (c.requires.queued.own c.args.number) in
+    let own : IsOwn c.args._rings c.args.number c.in-Some.entry = subst (λ (o : Option Entry). IfSome o (IsOwn c.args._rings c.args.number)) there (c.requires.queued.own c.args.number) in
     let within : c.args.number < length c.args.slots.now = c.kept_in.ensures.reached (ap is_some c.in-Some.is) in
-    marks-set c.args.slots.now c.args.number c.in-Some.entry c.args.tallies.now.marks c.requires.tallied.marks c.requires.queued.own own there within lt
+    marks-set c.args._rings c.args.slots.now c.args.number c.in-Some.entry c.args.tallies.now.marks c.requires.tallied.marks c.requires.queued.own own there within lt
 
 pub take-requires-clause-against : goal.take-requires-clause-against
 take-requires-clause-against c = λ lt.
@@ -36,15 +36,15 @@ take-requires-clause-by c = λ lt.
 
 pub returns-in-Some-clause-queued : goal.returns-in-Some-clause-queued
 returns-in-Some-clause-queued c =
-    rw c.remove.ensures (AreQueued-emptied c.args.slots.now c.args.queue.now c.args.number c.requires.queued (c.kept_in.ensures.reached (ap is_some c.in-Some.is)))
+    rw c.remove.ensures (AreQueued-emptied c.args._rings c.args.slots.now c.args.queue.now c.args.number c.requires.queued (c.kept_in.ensures.reached (ap is_some c.in-Some.is)))
 
 pub returns-in-Some-clause-tallied : goal.returns-in-Some-clause-tallied
 returns-in-Some-clause-tallied c =
     let there : get_or c.args.slots.now c.args.number None ≡ Some c.in-Some.entry = sym c.kept_in.ensures.value ∙ c.in-Some.is in
     let within : c.args.number < length c.args.slots.now = c.kept_in.ensures.reached (ap is_some c.in-Some.is) in
-    let own : IsOwn c.args.number c.in-Some.entry = subst (λ (o : Option Entry). IfSome o (IsOwn c.args.number)) there (c.requires.queued.own c.args.number) in
-    let left = AreQueued-emptied c.args.slots.now c.args.queue.now c.args.number c.requires.queued within in
-    rw c.take.ensures.value (AreTallied-less c.args.slots.now c.args.number c.in-Some.entry c.args.tallies.now c.requires.tallied c.requires.queued.own left.own own there within c.take.ensures.accused c.take.ensures.accuser)
+    let own : IsOwn c.args._rings c.args.number c.in-Some.entry = subst (λ (o : Option Entry). IfSome o (IsOwn c.args._rings c.args.number)) there (c.requires.queued.own c.args.number) in
+    let left = AreQueued-emptied c.args._rings c.args.slots.now c.args.queue.now c.args.number c.requires.queued within in
+    rw c.take.ensures.value (AreTallied-less c.args._rings c.args.slots.now c.args.number c.in-Some.entry c.args.tallies.now c.requires.tallied c.requires.queued.own left.own own there within c.take.ensures.accused c.take.ensures.accuser)
 
 pub returns-in-None-clause-left : goal.returns-in-None-clause-left
 returns-in-None-clause-left c =

@@ -5,7 +5,7 @@ use Rattle.removal_timer.proofs.Timers.is_empty.Goals as goal
 
 pub returns-clause-value : goal.returns-clause-value
 returns-clause-value c =
-    empty_value c.self.inside.slots.items c.self.inside.queue c.first.result c.is_none.result c.self.invariant.queued c.first.ensures.value c.is_none.ensures
+    empty_value c.self.inside.rings c.self.inside.slots.items c.self.inside.queue c.first.result c.is_none.result c.self.invariant.queued c.first.ensures.value c.is_none.ensures
     ∙ ap (λ (k : Kept). eqb (length k.entries) 0) c.self.view_is
 
 pub returns-clause-empty : goal.returns-clause-empty

@@ -1,4 +1,4 @@
-use Rattle.std.proofs.Common.{◌≡◌, None, inl, inr, sym, ap, ◌∙◌}
+use Rattle.std.proofs.Common.{◌≡◌, None, inl, inr, sym, ap, ◌∙◌, arith}
 use Rattle.std.proofs.lemmas.Bool.{cases_lt}
 use Rattle.ff_ids.specs.declared.TheConstants.{MAX_RINGS}
 use Rattle.ff_ids.specs.Masks.{enables}
@@ -16,6 +16,6 @@ returns c = λ ring past.
       | inl on ↦
           let told = ap (λ n. enables n ring) (c.self.invariant.tallied.marks m c.rings.ensures.range) ∙ mark-tells m ring slots on in
           not_some (entry_at m ring (entries_in slots)) (sym told ∙ c.rings.ensures.none ring past)
-      | inr above ↦ (nothing_at m ring slots c.self.invariant.queued.own above).0
+      | inr above ↦ (nothing_at c.self.inside.rings m ring slots c.self.invariant.queued.own (omega (arith, above, c.self.invariant.few))).0
     ] in
     sym (ap (λ (k : Kept). entry_at m ring k.entries) c.self.view_is) ∙ none
