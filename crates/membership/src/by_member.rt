@@ -4,7 +4,7 @@ ghost use Rattle.std.specs.Prelude.{◌≡◌, ◌<◌, ◌≤◌, IfOk, is_some
 ghost use Rattle.std.specs.Option.{option_copied};
 ghost use Rattle.std.specs.FinMap as map;
 ghost use Rattle.ff_ids.specs.declared.TheConstants.{MEMBERS};
-ghost use Rattle.membership.specs.Slots.{taken_from};
+ghost use Rattle.membership.specs.Slots.{map_of, taken_from};
 
 use ff_ids::{MEMBERS, MemberId};
 use std::alloc::{AllocError, Global};
@@ -36,18 +36,35 @@ impl<T> Model for ByMember<T> {
         × (MEMBERS ≤ vec_capacity b.slots) };
 }
 
-/// Makes the slots reach this one, for which they have room. Those that are new are empty.
+/// Makes the slots reach up to this one, for which they have room. Those that are new are empty.
 fn reach<T: Drop>(slots: &mut Vec<Option<T>>, index: usize)
     requires within { index < MEMBERS }
     requires few { length slots.old.items ≤ MEMBERS }
     requires room { MEMBERS ≤ vec_capacity slots.old }
-    ensures reached { index < length slots.new.items }
+    ensures reached { index ≤ length slots.new.items }
     ensures few { length slots.new.items ≤ MEMBERS }
     ensures room { MEMBERS ≤ vec_capacity slots.new }
     ensures same { taken_from 0 slots.new.items ≡ taken_from 0 slots.old.items }
 {
-    'growing: while slots.len() <= index {
+    'growing: while slots.len() < index {
         slots.push_reserved(None);
+    }
+}
+
+/// Writes the value into this slot, up to which the slots reach. A slot that is new is written once.
+fn fill<T: Drop>(slots: &mut Vec<Option<T>>, index: usize, value: T)
+    requires within { index < MEMBERS }
+    requires reached { index ≤ length slots.old.items }
+    requires few { length slots.old.items ≤ MEMBERS }
+    requires room { MEMBERS ≤ vec_capacity slots.old }
+    ensures value { map_of slots.new.items ≡ map.insert (map_of slots.old.items) index value }
+    ensures few { length slots.new.items ≤ MEMBERS }
+    ensures room { MEMBERS ≤ vec_capacity slots.new }
+{
+    if index < slots.len() {
+        slots[index] = Some(value);
+    } else {
+        slots.push_reserved(Some(value));
     }
 }
 
@@ -87,7 +104,7 @@ impl<T: Drop> ByMember<T> {
     {
         let index = member.get() as usize;
         reach(&mut self.slots, index);
-        self.slots[index] = Some(value);
+        fill(&mut self.slots, index, value);
     }
 
     /// Takes away each value.

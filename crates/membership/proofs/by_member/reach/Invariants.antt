@@ -1,4 +1,4 @@
-use Rattle.std.proofs.Common.{◌≡◌, ◌+◌, ◌-◌, ◌≤◌, length}
+use Rattle.std.proofs.Common.{◌≡◌, ◌-◌, ◌≤◌, length}
 use Rattle.std.specs.Prelude.{vec_capacity, vec_len}
 use Rattle.ff_ids.specs.declared.TheConstants.{MEMBERS}
 use Rattle.membership.specs.Slots.{taken_from}
@@ -13,4 +13,4 @@ invariant-growing g l =
     }
 
 abbrev pub decreases-growing : goal.decreases-growing
-decreases-growing g l = l.index + 1 - vec_len l.slots
+decreases-growing g l = l.index - vec_len l.slots
