@@ -24,7 +24,7 @@ use Rattle.node_rules.specs.Calls.{Call, tells, takes, wants}
 use Rattle.node_rules.specs.Deliveries.{answer_to, answers, judged, handles, handles_all, hears}
 use Rattle.datagram.specs.declared.Datagram.{Datagram}
 use Rattle.datagram.specs.declared.Datagram.TheVariants as kinds
-use Rattle.node_core.specs.Hears.{RunsHearing}
+use Rattle.node_core.specs.Hears.{RunsHearing, brings_records}
 use Rattle.datagram.specs.Grammar.{GivesDatagram}
 use Rattle.records.specs.declared.fault.FormFault.{FormFault}
 use Rattle.records.specs.declared.fault.FormFault.TheVariants as forms
@@ -165,3 +165,8 @@ take-all zero [] h = refl
 take-all zero (x ∷ xs) h = absurd (omega (arith, h))
 take-all (suc n) [] h = refl
 take-all (suc n) (x ∷ xs) h = ap (λ ys. x ∷ ys) (take-all n xs (omega (arith, h)))
+
+-- the datagram that was read brings what its bytes do
+pub read-brings : (read : Result Datagram ℕ) (d : Datagram) → GivesDatagram read (Ok d) → brings_records (Ok d) ≡ brings_records read
+read-brings (Ok x) d gives = ap (λ (y : Datagram). brings_records (Ok y)) gives
+read-brings (Err place) d gives = cc

@@ -1,5 +1,5 @@
 -- A datagram is heard whole, or up to a record in whose answer the disk fails.
-use Rattle.std.specs.Prelude.{◌≡◌, ℕ, false, List, Some, Result, Ok, Err, take}
+use Rattle.std.specs.Prelude.{◌≡◌, ℕ, Bool, true, false, List, Some, Result, Ok, Err, take}
 use Rattle.std.specs.List.{slice_get}
 use Rattle.records.specs.declared.Record.{Record}
 use Rattle.datagram.specs.declared.Datagram.{Datagram}
@@ -21,3 +21,11 @@ pub record StopsAt (Q : Call → Call → Type 0) (s : Setting) (heard : Result 
 abbrev pub RunsHearing : (Call → Type 0) → (Call → Call → Type 0) → Setting → Result Datagram ℕ → Call → Result (Unit {0}) NodeFault → Type 0
 RunsHearing P Q s heard c (Ok done) = P (hears s heard c)
 RunsHearing P Q s heard c (Err fault) = StopsAt Q s heard c
+
+-- What was read is a datagram that brings records: only in the answer to one is anything signed.
+abbrev pub brings_records : Result Datagram ℕ → Bool
+brings_records (Ok (kinds.Ping from nonce)) = false
+brings_records (Ok (kinds.Pong from nonce)) = false
+brings_records (Ok (kinds.Summary from flag summary)) = false
+brings_records (Ok (kinds.Records from records)) = true
+brings_records (Err place) = false

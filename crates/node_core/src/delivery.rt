@@ -13,7 +13,7 @@ ghost use Rattle.records.specs.declared.fault.FormFault.TheVariants as forms;
 ghost use Rattle.node_core.specs.declared.NodeFault.TheVariants as faults;
 ghost use Rattle.node_core.specs.Playing.{Plays, Stops, Grows, IsInCall, IsNode, KeepsCertificates};
 ghost use Rattle.node_core.specs.Spending.{SignsNothing, Spends, SpendsIn};
-ghost use Rattle.node_core.specs.Hears.{RunsHearing};
+ghost use Rattle.node_core.specs.Hears.{RunsHearing, brings_records};
 ghost use Rattle.node_rules.specs.OnDisks.{Delivers, delivered_on, hears_on};
 ghost use Rattle.node_core.specs.OnDisks.{ComesTo, FollowsDisk, on_disk, storage};
 ghost use Rattle.node_core.specs.Answers.{GivesCall, Stands, IsEnded, MayStop};
@@ -53,6 +53,8 @@ impl Node {
             → (D.state disk.old).model ≡ Some d → self.new.telling.failed ≡ false
             → ComesTo s es os self.new (D.state disk.new).model (is_err result)
             (hears_on storage s (Ok datagram) (on_disk c d self.old.signer.seat)) }
+        ensures unsigned { brings_records (Ok datagram) ≡ false
+            → (self.new.signer ≡ self.old.signer) × (D.state disk.new ≡ D.state disk.old) }
     {
         match datagram {
             Datagram::Ping { from, nonce } => self.hear_ping(alloc, from, nonce),
@@ -110,6 +112,8 @@ impl Node {
             → (D.state disk.old).model ≡ Some d → self.new.telling.failed ≡ false
             → ComesTo s es os self.new (D.state disk.new).model (is_err result)
             (hears_on storage s (read_of bytes.now) (on_disk c d self.old.signer.seat)) }
+        ensures unsigned { brings_records (read_of bytes.now) ≡ false
+            → (self.new.signer ≡ self.old.signer) × (D.state disk.new ≡ D.state disk.old) }
     {
         match read(alloc, bytes) {
             Ok(datagram) => self.hear(alloc, disk, datagram),
@@ -151,7 +155,7 @@ impl Node {
     /// after `OutOfMemory` a front of those of the whole call. `Ended` comes exactly where an earlier call answered a
     /// fault, and nothing is added. After a fault what was given stands, and the node is over. Each index that the call
     /// spends is reported, in order; where memory was refused, all but perhaps the last. The disk is the one on which the
-    /// signer's store was opened.
+    /// signer's store was opened: it is left as it is, and nothing is signed, where the bytes bring no record.
     pub fn deliver<D: Disk>(
         &mut self,
         alloc: Global,
@@ -186,6 +190,8 @@ impl Node {
             (record { events = events.new; sent = out.new }) (D.state disk.new).model
             (delivered_on storage s n bytes.now (record { disk = d; seat = self.old.signer.seat }))
             result }
+        ensures unsigned { brings_records (read_of bytes.now) ≡ false
+            → (self.new.signer ≡ self.old.signer) × (D.state disk.new ≡ D.state disk.old) }
     {
         if self.ended {
             return Err(NodeFault::Ended);

@@ -101,3 +101,11 @@ returns-clause-kept g c =
 
 pub returns-then-self-clause-kept : goal.returns-then-self-clause-kept
 returns-then-self-clause-kept g c = λ m x is. is
+
+pub returns-clause-unsigned : goal.returns-clause-unsigned
+returns-clause-unsigned g c = λ none.
+    let heard = c.hear_bytes-heard.ensures.unsigned none in
+    (ap (λ (w : Kept). w.signer) c.finish.ensures.frame ∙ heard.0 ∙ ap (λ (w : Kept). w.signer) c.self.view_is, heard.1)
+
+pub returns-then-self-clause-unsigned : goal.returns-then-self-clause-unsigned
+returns-then-self-clause-unsigned g c = λ none. (refl, refl)

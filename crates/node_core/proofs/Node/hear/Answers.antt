@@ -1,4 +1,5 @@
-use Rattle.std.proofs.Common.{◌≡◌, subst, sym, rules}
+use Rattle.std.proofs.Common.{◌≡◌, refl, ap, ◌∙◌, subst, sym, rules}
+use Rattle.std.proofs.lemmas.Bool.{false≢true}
 use Rattle.datagram.specs.declared.Datagram.TheVariants as kinds
 use Rattle.datagram.specs.Spelling.{HasContent}
 use Rattle.node_rules.specs.Deliveries.{hears}
@@ -13,6 +14,7 @@ use Rattle.datagram.specs.declared.Datagram.{Datagram}
 use Rattle.epoch_store.specs.Placed.{PlacedStore}
 use Rattle.node_rules.specs.OnDisks.{OnDisk, handles_on, hears_on}
 use Rattle.node_rules.proofs.GoingOn.{on-hears}
+use Rattle.node_core.specs.Hears.{brings_records}
 use Rattle.node_core.specs.OnDisks.{ComesTo, on_disk, storage}
 use Rattle.node_core.proofs.DiskLemmas.{comes-heard}
 use Rattle.node_core.proofs.Node.hear.Goals as goal
@@ -83,3 +85,17 @@ returns-in-Records-clause-follows g c = λ s es os call d p on at fine.
     subst (λ (z : Datagram). ComesTo s es os c.handle_all.new.self y (is_err c.handle_all.result) (hears_on storage s (Ok z) o)) (sym is)
     (subst (λ (xs : List Record). ComesTo s es os c.handle_all.new.self y (is_err c.handle_all.result) (fold (handles_on storage s) o xs)) c.into_vec.ensures
     (c.handle_all.ensures.follows s es os call d p on at fine))
+
+pub returns-in-Ping-clause-unsigned : goal.returns-in-Ping-clause-unsigned
+returns-in-Ping-clause-unsigned g c = λ none. (c.hear_ping.ensures.signs_nothing.signer, refl)
+
+pub returns-in-Pong-clause-unsigned : goal.returns-in-Pong-clause-unsigned
+returns-in-Pong-clause-unsigned g c = λ none. (c.hear_pong.ensures.signs_nothing.signer, refl)
+
+pub returns-in-Summary-clause-unsigned : goal.returns-in-Summary-clause-unsigned
+returns-in-Summary-clause-unsigned g c = λ none. (c.hear_summary.ensures.signs_nothing.signer, refl)
+
+pub returns-in-Records-clause-unsigned : goal.returns-in-Records-clause-unsigned
+returns-in-Records-clause-unsigned g c = λ none.
+    let is : c.args.datagram ≡ kinds.Records c.in-Records.from c.in-Records.records = search rules in
+    absurd (false≢true (sym none ∙ ap (λ (d : Datagram). brings_records (Ok d)) is))

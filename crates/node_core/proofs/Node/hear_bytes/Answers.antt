@@ -1,5 +1,6 @@
 use Rattle.node_core.specs.Playing.{Plays, Stops}
-use Rattle.node_core.proofs.HandleLemmas.{fault-heard, heard-by}
+use Rattle.std.proofs.Common.{refl, ◌∙◌}
+use Rattle.node_core.proofs.HandleLemmas.{fault-heard, heard-by, read-brings}
 use Rattle.datagram.specs.Grammar.{read_of}
 use Rattle.node_core.proofs.SpendLemmas.{spends-none}
 use Rattle.std.specs.Prelude.{is_err}
@@ -27,3 +28,9 @@ pub returns-in-Ok-clause-follows : goal.returns-in-Ok-clause-follows
 returns-in-Ok-clause-follows g c = λ s es os call d p on is fine.
     read-comes s es os c.hear.new.self (g.D.Disk.state c.hear.new.disk).model (is_err c.hear.result) (read_of c.args.bytes.now) c.in-Ok.datagram (on_disk call d c.args.self.now.signer.seat) c.in-Ok.ensures.exact
     (c.hear.ensures.follows s es os call d p on is fine)
+
+pub returns-in-Err-clause-unsigned : goal.returns-in-Err-clause-unsigned
+returns-in-Err-clause-unsigned g c = λ none. (c.hear_fault.ensures.signs_nothing.signer, refl)
+
+pub returns-in-Ok-clause-unsigned : goal.returns-in-Ok-clause-unsigned
+returns-in-Ok-clause-unsigned g c = λ none. c.hear.ensures.unsigned (read-brings (read_of c.args.bytes.now) c.in-Ok.datagram c.in-Ok.ensures.exact ∙ none)
