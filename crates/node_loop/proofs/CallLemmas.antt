@@ -30,7 +30,7 @@ use Rattle.node_loop.specs.declared.fault.ServeFault.{ServeFault}
 use Rattle.node_loop.specs.declared.fault.ServeFault.TheVariants as faults
 use Rattle.node_loop.specs.Turns.{Act, Calls}
 use Rattle.node_loop.specs.Courses.{ServeState, acted, gives, may_tick, moves, served, tells_all}
-use Rattle.node_loop.specs.Writing.{Answers, Before, Extends, IsAt, IsBeyond, IsWithin, Settles, Standing, Stands, standing}
+use Rattle.node_loop.specs.Writing.{Answers, Before, Extends, IsAt, IsBeyond, IsWithin, Settles, Standing, Stands, Tells, standing}
 use Rattle.node_loop.specs.Serving.{IsStarved, IsStopped, KeepsHeld, Serves, starves}
 use Rattle.node_loop.proofs.CourseLemmas.{Grows, grows-refl, grows-tells_all, node-gives, served-cons, served-nil, tells_all-append}
 use Rattle.node_loop.proofs.TellLemmas.{at-within, beyond, within-grows}
@@ -81,6 +81,13 @@ settles-at before w r (Err faults.StoreFault) at = at
 settles-at before w r (Err faults.WriteFault) at = at-within before w r at
 settles-at before w r (Err faults.OutOfMemory) at = at-within before w r at
 
+-- what was reported, or broke off
+pub told-settles : (before : Before) (w : Standing) (r : ServeState) (answer : Result (Unit {0}) ServeFault) → Tells before w r answer → Settles before w r answer
+told-settles before w r (Ok x) h = h
+told-settles before w r (Err faults.StoreFault) h = absurd h
+told-settles before w r (Err faults.WriteFault) h = h
+told-settles before w r (Err faults.OutOfMemory) h = h
+
 -- ---- what a call comes to
 
 -- what the call reported is what its signatures are
@@ -109,7 +116,7 @@ pub gives-is : (c : Call) (r : ServeState) → gives c r ≡ tells_all c.told (m
 unfolding gives
 gives-is c r = refl
 
-served-one : (s : Setting) (act : Act) (r : ServeState) → served s (act ∷ []) r ≡ acted s r act
+pub served-one : (s : Setting) (act : Act) (r : ServeState) → served s (act ∷ []) r ≡ acted s r act
 served-one s act r = served-cons s act [] r ∙ served-nil s (acted s r act)
 
 -- what a call reported was reported

@@ -51,14 +51,14 @@ but-at before w r at = record { knows = at.knows; link = at.link; text = owed-no
 pub but-none : (before : Before) (w : Standing) (lines : List ℕ) (r : ServeState) → lines ≡ [] → IsAt before w r → IsAtBut before w lines r
 but-none before w lines r none at = subst (λ (xs : List ℕ). IsAtBut before w xs r) (sym none) (but-at before w r at)
 
-but-more : (before : Before) (w : Standing) (lines line : List ℕ) (r : ServeState) → IsAtBut before w lines r → IsAtBut before w (lines ++ line) (writes line r)
+pub but-more : (before : Before) (w : Standing) (lines line : List ℕ) (r : ServeState) → IsAtBut before w lines r → IsAtBut before w (lines ++ line) (writes line r)
 but-more before w lines line r at = record { knows = at.knows; link = at.link; text = owed-more before.taken w.taken lines r.text line at.text; sent = at.sent; key = at.key }
 
 but-written : (before : Before) (v : Kept) (link : Option LinkState) (taken after : Option (List ℕ)) (moments : List Moment) (sent : ℕ) (lines : List ℕ) (r : ServeState)
     → IsAtBut before (standing v link taken moments sent) lines r → Appends taken after lines → IsAt before (standing v link after moments sent) r
 but-written before v link taken after moments sent lines r at h = record { knows = at.knows; link = at.link; text = owed-all before.taken taken after lines r.text at.text h; sent = at.sent; key = at.key }
 
-but-broke : (before : Before) (v : Kept) (link : Option LinkState) (taken after : Option (List ℕ)) (moments : List Moment) (sent : ℕ) (lines : List ℕ) (r : ServeState)
+pub but-broke : (before : Before) (v : Kept) (link : Option LinkState) (taken after : Option (List ℕ)) (moments : List Moment) (sent : ℕ) (lines : List ℕ) (r : ServeState)
     → IsAtBut before (standing v link taken moments sent) lines r → WroteFront taken after lines → IsWithin before (standing v link after moments sent) r
 but-broke before v link taken after moments sent lines r at h =
     let part : WroteFront before.taken after r.text = owed-part before.taken taken after lines r.text at.text h in
@@ -158,6 +158,10 @@ behind-added before after old mid line (Err e) more h is =
 pub owes-none : (taken : Option (List ℕ)) (lines : List ℕ) (count : ℕ) → lines ≡ [] → OwesSpent [] taken taken lines count count
 owes-none taken lines count none = record { lines = []; give = refl; owed = record { front = []; is = sym none; written = Appends-nil taken }; link = refl }
 
+-- what was owed before the first event
+pub owes-first : (spent : List Spent) (before after : Option (List ℕ)) (lines : List ℕ) (count f : ℕ) → OwesSpent spent before after lines count f → OwesSpent (spent ++ spent_told []) before after lines count f
+owes-first spent before after lines count f h = subst (λ (s : List Spent). OwesSpent s before after lines count f) (sym (append-nil spent)) h
+
 owes-line : (spent : List Spent) (before after : Option (List ℕ)) (old : List ℕ) (count f f1 : ℕ) (e : journal.Event) → OwesSpent spent before after old count f → f1 ≡ counted (is_loss e.what) f
     → OwesSpent (spent ++ spent_by e.what) before after (old ++ line_of e) count f1
 owes-line spent before after old count f f1 e h is = record {
@@ -231,14 +235,18 @@ told-longer : (done more : List journal.Event) (e : journal.Event) → more ≡ 
 told-longer done more e is = ap (λ s. spent_told done ++ s) (sym (append-nil (spent_by e.what))) ∙ sym (told-append done (e ∷ [])) ∙ ap spent_told (sym is)
 
 -- one event more
-pub owes-next : (done more : List journal.Event) (e : journal.Event) (before after : Option (List ℕ)) (lines : List ℕ) (count f : ℕ) → more ≡ done ++ e ∷ []
-    → OwesSpent (spent_told done ++ spent_by e.what) before after lines count f → OwesSpent (spent_told more) before after lines count f
-owes-next done more e before after lines count f is h = subst (λ (s : List Spent). OwesSpent s before after lines count f) (told-longer done more e is) h
+pub owes-next : (spent : List Spent) (done more : List journal.Event) (e : journal.Event) (before after : Option (List ℕ)) (lines : List ℕ) (count f : ℕ) → more ≡ done ++ e ∷ []
+    → OwesSpent ((spent ++ spent_told done) ++ spent_by e.what) before after lines count f → OwesSpent (spent ++ spent_told more) before after lines count f
+owes-next spent done more e before after lines count f is h =
+    subst (λ (s : List Spent). OwesSpent s before after lines count f) (append_assoc spent (spent_told done) (spent_by e.what) ∙ ap (λ (s : List Spent). spent ++ s) (told-longer done more e is)) h
 
 -- one of them broke off
-pub spent-part : (done all rest : List journal.Event) (e : journal.Event) (before after : Option (List ℕ)) (count f : ℕ) (fault : ServeFault) → (fault ≢ faults.StoreFault) → all ≡ done ++ e ∷ rest
-    → WritesSpent (spent_told done ++ spent_by e.what) before after count f (Err fault) → WritesSpent (spent_told all) before after count f (Err fault)
-spent-part done all rest e before after count f fault other is h =
-    spent-same ((spent_told done ++ spent_by e.what) ++ spent_told rest) (spent_told all) before after count f (Err fault)
-    (append_assoc (spent_told done) (spent_by e.what) (spent_told rest) ∙ sym (told-append done (e ∷ rest)) ∙ ap spent_told (sym is))
-    (spent-longer (spent_told done ++ spent_by e.what) (spent_told rest) before after count f fault other h)
+pub spent-part : (spent : List Spent) (done all rest : List journal.Event) (e : journal.Event) (before after : Option (List ℕ)) (count f : ℕ) (fault : ServeFault) → (fault ≢ faults.StoreFault) → all ≡ done ++ e ∷ rest
+    → WritesSpent ((spent ++ spent_told done) ++ spent_by e.what) before after count f (Err fault) → WritesSpent (spent ++ spent_told all) before after count f (Err fault)
+spent-part spent done all rest e before after count f fault other is h =
+    let first : List Spent = (spent ++ spent_told done) ++ spent_by e.what in
+    let told : (spent_told done ++ spent_by e.what) ++ spent_told rest ≡ spent_told all =
+    append_assoc (spent_told done) (spent_by e.what) (spent_told rest) ∙ sym (told-append done (e ∷ rest)) ∙ ap spent_told (sym is) in
+    spent-same (first ++ spent_told rest) (spent ++ spent_told all) before after count f (Err fault)
+    (ap (λ (s : List Spent). s ++ spent_told rest) (append_assoc spent (spent_told done) (spent_by e.what)) ∙ append_assoc spent (spent_told done ++ spent_by e.what) (spent_told rest) ∙ ap (λ (s : List Spent). spent ++ s) told)
+    (spent-longer first (spent_told rest) before after count f fault other h)

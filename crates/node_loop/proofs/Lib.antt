@@ -6,6 +6,7 @@ pub mod ServeLemmas
 pub mod LineLemmas
 pub mod GatherLemmas
 pub mod CallLemmas
+pub mod UnsignedLemmas
 pub mod TurnLemmas
 pub mod ClockLemmas
 mod ExpectLemmas

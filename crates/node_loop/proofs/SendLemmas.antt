@@ -75,18 +75,18 @@ told-as before w lines r r1 answer is h = subst (λ (x : ServeState). TellsBut b
 
 -- ---- events one after another
 
--- These events were reported, but for the lines that are gathered.
-pub record HasTold (v : Kept) (events : List journal.Event) (link later : Option LinkState) (taken after : Option (List ℕ)) (sent sent1 : ℕ) (lines : List ℕ) : Type 0 where
-  pub tells : (before : Before) (moments : List Moment) (r : ServeState) → IsAt before (standing v link taken moments sent) r → IsAtBut before (standing v later after moments sent1) lines (tells_all events r)
+-- These events were reported behind the lines that were gathered first, but for those that are gathered now.
+pub record HasTold (v : Kept) (events : List journal.Event) (link later : Option LinkState) (taken after : Option (List ℕ)) (sent sent1 : ℕ) (first lines : List ℕ) : Type 0 where
+  pub tells : (before : Before) (moments : List Moment) (r : ServeState) → IsAtBut before (standing v link taken moments sent) first r → IsAtBut before (standing v later after moments sent1) lines (tells_all events r)
   pub extends : Extends taken after link later
 
-pub told-none : (v : Kept) (link : Option LinkState) (taken : Option (List ℕ)) (sent : ℕ) (lines : List ℕ) → lines ≡ [] → HasTold v [] link link taken taken sent sent lines
-told-none v link taken sent lines none = record { tells = λ before moments r at. but-none before (standing v link taken moments sent) lines r none at; extends = extends-refl taken link }
+pub told-none : (v : Kept) (link : Option LinkState) (taken : Option (List ℕ)) (sent : ℕ) (lines : List ℕ) → HasTold v [] link link taken taken sent sent lines lines
+told-none v link taken sent lines = record { tells = λ before moments r at. at; extends = extends-refl taken link }
 
-pub told-next : (v : Kept) (done more : List journal.Event) (e : journal.Event) (l1 l2 l3 : Option LinkState) (t1 t2 t3 : Option (List ℕ)) (n1 n2 n3 : ℕ) (old lines : List ℕ) → HasTold v done l1 l2 t1 t2 n1 n2 old → more ≡ done ++ e ∷ []
+pub told-next : (v : Kept) (done more : List journal.Event) (e : journal.Event) (l1 l2 l3 : Option LinkState) (t1 t2 t3 : Option (List ℕ)) (n1 n2 n3 : ℕ) (first old lines : List ℕ) → HasTold v done l1 l2 t1 t2 n1 n2 first old → more ≡ done ++ e ∷ []
     → ((before : Before) (moments : List Moment) (r : ServeState) → IsAtBut before (standing v l2 t2 moments n2) old r → IsAtBut before (standing v l3 t3 moments n3) lines (tells r e))
-    → Extends t2 t3 l2 l3 → HasTold v more l1 l3 t1 t3 n1 n3 lines
-told-next v done more e l1 l2 l3 t1 t2 t3 n1 n2 n3 old lines h is next extends = record {
+    → Extends t2 t3 l2 l3 → HasTold v more l1 l3 t1 t3 n1 n3 first lines
+told-next v done more e l1 l2 l3 t1 t2 t3 n1 n2 n3 first old lines h is next extends = record {
   tells = λ before moments r at.
       subst (λ (x : ServeState). IsAtBut before (standing v l3 t3 moments n3) lines x) (sym (ap (λ (es : List journal.Event). tells_all es r) is ∙ tells_all-append done (e ∷ []) r))
       (next before moments (tells_all done r) (h.tells before moments r at));

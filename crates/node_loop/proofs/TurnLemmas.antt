@@ -21,6 +21,7 @@ use Rattle.node_loop.specs.Turns.{Act, Receives, Writes, Calls, Outlook, after_t
 use Rattle.node_loop.specs.Courses.{ServeState, acted, served, served_from, with_feed, writes}
 use Rattle.node_loop.specs.Writing.{Before, Hears, IsWithin, Standing, Stands, Tells, before_all, standing}
 use Rattle.node_loop.specs.Serving.{Sees, Serves}
+use Rattle.node_loop.proofs.CallLemmas.{served-one}
 use Rattle.node_loop.proofs.CourseLemmas.{Grows, coming-turn, front-refl, grows-served, served-append, served-cons, served-nil}
 use Rattle.node_loop.proofs.ServeLemmas.{breaks-off, serves-first, serves-last, serves-within}
 
@@ -146,6 +147,16 @@ ticked-turn s before w r turn answer h =
     served-append s (begun_acts turn) (delivery_of turn.heard) r ∙ ap (served s (delivery_of turn.heard)) (served-begun s turn r) in
     serves-last s before first (ticks_of turn.ticks) r w answer
     (subst (λ x. Serves s before (ticks_of turn.ticks) x w answer) (sym is) h)
+
+-- a turn of no ticks is its line and the delivery
+pub unticked-turn : (s : Setting) (before : Before) (w : Standing) (r : ServeState) (turn : Turn) (answer : Result (Unit {0}) ServeFault) → turn.ticks ≡ 0
+    → Serves s before (Writes (turn_text turn) ∷ delivery_of turn.heard) (acted s r Receives) w answer → Serves s before (turn_acts turn) r w answer
+unticked-turn s before w r turn answer none h =
+    let acts = Writes (turn_text turn) ∷ delivery_of turn.heard in
+    let whole : turn_acts turn ≡ Receives ∷ acts =
+    ap (λ (k : ℕ). Receives ∷ Writes (turn_text turn) ∷ delivery_of turn.heard ++ ticks_of k) none ∙ ap (λ (xs : List Act). Receives ∷ Writes (turn_text turn) ∷ xs) (append-nil (delivery_of turn.heard)) in
+    subst (λ xs. Serves s before xs r w answer) (sym whole)
+    (serves-last s before (Receives ∷ []) acts r w answer (subst (λ x. Serves s before acts x w answer) (sym (served-one s Receives r)) h))
 
 -- ---- the turns
 

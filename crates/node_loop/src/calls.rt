@@ -20,8 +20,8 @@ use node_core::{Events, Node, NodeFault, Outbox};
 use ports::{Disk, Link, Sink};
 use std::alloc::Global;
 
-/// Writes what a call of the node reported, also where its disk failed, and answers the call's fault.
-fn settle<L: Link, O: Sink>(
+/// Writes what a call of the node reported, also where its disk failed, and answers the call's fault. `lines` is room.
+pub fn settle<L: Link, O: Sink>(
     node: &Node,
     link: &mut L,
     out: &mut O,
@@ -46,6 +46,7 @@ fn settle<L: Link, O: Sink>(
     ensures spent { WritesSpent (spent_told events.now) (O.state out.old).taken
         (O.state out.new).taken (L.state link.old).faults (L.state link.new).faults result }
 {
+    lines.clear();
     tell_each(node, link, out, sent, lines, events.without_loss())?;
     match done {
         Ok(()) => Ok(()),

@@ -10,6 +10,7 @@ mod fault;
 mod serving;
 mod telling;
 mod turns;
+mod unsigned;
 mod writing;
 
 pub use fault::ServeFault;

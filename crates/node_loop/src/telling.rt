@@ -150,7 +150,7 @@ fn tell<L: Link, O: Sink>(
 }
 
 /// Writes what happened, event after event, and sends each datagram behind its line. The lines up to and with that of a
-/// datagram are one write, and so are those behind the last. They are gathered in this room, whatever it holds.
+/// datagram are one write, and so are those behind the last. What was gathered before stands in front of the first of them.
 pub fn tell_each<L: Link, O: Sink>(
     node: &Node,
     link: &mut L,
@@ -166,16 +166,18 @@ pub fn tell_each<L: Link, O: Sink>(
         ≡ counted (is_write_fault result) (O.state out.old).faults }
     ensures cause { IfErr result (λ e. e ≢ ServeFault.StoreFault) }
     ensures tells { (before : Before) (moments : List Moment) (r : ServeState)
-        → IsAt before (standing node.now (L.state link.old).contents (O.state out.old).taken moments
-        sent.old) r
+        → IsAtBut before (standing node.now (L.state link.old).contents (O.state out.old).taken
+        moments sent.old) lines.old.items r
         → Tells before (standing node.now (L.state link.new).contents (O.state out.new).taken
         moments sent.new) (tells_all events.now r) result }
     ensures extends { Extends (O.state out.old).taken (O.state out.new).taken
         (L.state link.old).contents (L.state link.new).contents }
-    ensures spent { WritesSpent (spent_told events.now) (O.state out.old).taken
-        (O.state out.new).taken (L.state link.old).faults (L.state link.new).faults result }
+    ensures spent { (spent : List Spent) (before : Option (List ℕ)) (count : ℕ)
+        → OwesSpent spent before (O.state out.old).taken lines.old.items count
+        (L.state link.old).faults
+        → WritesSpent (spent ++ spent_told events.now) before (O.state out.new).taken count
+        (L.state link.new).faults result }
 {
-    lines.clear();
     for event in events {
         tell(node, link, out, sent, lines, event)?;
     }

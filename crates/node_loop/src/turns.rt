@@ -12,9 +12,10 @@ ghost use Rattle.node_loop.specs.Serving.{Sees, Serves};
 
 use crate::calls::{deliver, tick_times};
 use crate::fault::ServeFault;
-use crate::writing::write_line;
+use crate::unsigned::{deliver_unsigned, quiet_bytes};
+use crate::writing::{gather_turn, write_gathered};
 use fields::{Bytes, NoMemory};
-use journal::{Heard, Turn, write_turn};
+use journal::{Heard, Turn};
 use node_core::Node;
 use ports::{Clock, Disk, Link, Received, Sink};
 use std::alloc::Global;
@@ -76,9 +77,8 @@ fn write_turn_line<O: Sink>(out: &mut O, lines: &mut Vec<u8>, turn: &Turn) -> Re
     ensures wrote { WritesLine (O.state out.old).taken (O.state out.new).taken
         (with_feed (turn_text turn.now)) result }
 {
-    lines.clear();
-    match write_turn(turn, lines) {
-        Ok(()) => write_line(out, lines),
+    match gather_turn(turn, lines) {
+        Ok(()) => write_gathered(out, lines),
         Err(NoMemory) => Err(ServeFault::OutOfMemory),
     }
 }
@@ -122,7 +122,7 @@ fn deliver_heard<D: Disk, L: Link, O: Sink>(
 }
 
 /// One turn: hears the link, reads the clock, writes the turn's line, delivers what was got, and makes the ticks that are
-/// owed.
+/// owed. Where what was got brings no records and no ticks are owed, the line is written with what the delivery reports.
 pub fn turn<D: Disk, L: Link, C: Clock, O: Sink>(
     alloc: Global,
     node: &mut Node,
@@ -177,6 +177,10 @@ pub fn turn<D: Disk, L: Link, C: Clock, O: Sink>(
         heard,
         ticks,
     };
+    if let Some(bytes) = quiet_bytes(&turn) {
+        let sent = &mut progress.sent;
+        return deliver_unsigned(alloc, node, disk, link, out, sent, lines, &turn, bytes);
+    }
     write_turn_line(out, lines, &turn)?;
     let sent = &mut progress.sent;
     deliver_heard(alloc, node, disk, link, out, sent, lines, &turn.heard)?;

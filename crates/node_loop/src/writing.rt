@@ -2,6 +2,7 @@
 
 ghost use Rattle.std.specs.Prelude.{◌≡◌, ◌≢◌, ◌++◌, ◌≤◌, [], true, length, take, OnOk, OnErr, IfErr};
 ghost use Rattle.ports.specs.Count.{counted};
+ghost use Rattle.journal.specs.Turns.{turn_text};
 ghost use Rattle.journal.specs.declared.event.What.TheVariants as kinds;
 ghost use Rattle.node_loop.specs.Courses.{line_of, with_feed};
 ghost use Rattle.node_loop.specs.Gathering.{GathersLine, WritesBehind};
@@ -10,7 +11,7 @@ ghost use Rattle.node_loop.specs.Writing.{WritesLine, is_open_after, is_write_fa
 use crate::fault::ServeFault;
 use ff_ids::MemberId;
 use fields::NoMemory;
-use journal::{Event, write_event, write_sent};
+use journal::{Event, Turn, write_event, write_sent, write_turn};
 use ports::{Failed, Sink, write_all};
 
 /// Writes the bytes in one piece.
@@ -26,22 +27,6 @@ fn write_piece<O: Sink>(out: &mut O, bytes: &[u8]) -> Result<(), ServeFault>
         Ok(()) => Ok(()),
         Err(Failed) => Err(ServeFault::WriteFault),
     }
-}
-
-/// Writes the line, and the line feed that ends it.
-pub fn write_line<O: Sink>(out: &mut O, line: &mut Vec<u8>) -> Result<(), ServeFault>
-    requires open { (O.state out.old).is_open ≡ true }
-    ensures going { (O.state out.new).is_open ≡ is_open_after result }
-    ensures faults { (O.state out.new).faults
-        ≡ counted (is_write_fault result) (O.state out.old).faults }
-    ensures cause { IfErr result (λ e. e ≢ ServeFault.StoreFault) }
-    ensures wrote { WritesLine (O.state out.old).taken (O.state out.new).taken
-        (with_feed line.old.items) result }
-{
-    if line.push(b'\n').is_err() {
-        return Err(ServeFault::OutOfMemory);
-    }
-    write_piece(out, line)
 }
 
 /// Writes what was gathered, and gathers anew.
@@ -71,6 +56,15 @@ fn end_line(held: usize, lines: &mut Vec<u8>) -> Result<(), NoMemory>
         return Err(NoMemory);
     }
     Ok(())
+}
+
+/// Gathers the turn's line, and it alone.
+pub fn gather_turn(turn: &Turn, lines: &mut Vec<u8>) -> Result<(), NoMemory>
+    ensures { OnOk result (lines.new.items ≡ with_feed (turn_text turn.now)) }
+{
+    lines.clear();
+    write_turn(turn, lines)?;
+    end_line(0, lines)
 }
 
 /// Adds the event's line. Where memory is refused, `lines` is as it was.

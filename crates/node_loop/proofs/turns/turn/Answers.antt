@@ -1,15 +1,17 @@
 use Rattle.std.proofs.Common.{◌+◌, ℕ, Ok, Err, subst, sym, ap, ◌∙◌}
+use Rattle.ports.specs.Count.{counted}
+use Rattle.journal.specs.declared.turn.Heard.{Heard}
 use Rattle.journal.specs.declared.turn.Turn.{Turn}
 use Rattle.journal.specs.Turns.{turn_text}
 use Rattle.node_loop.specs.declared.fault.ServeFault.{ServeFault}
 use Rattle.node_loop.specs.Turns.{Receives, turn_acts, turn_in}
 use Rattle.node_loop.specs.Courses.{ServeState, acted, with_feed, writes}
-use Rattle.node_loop.specs.Writing.{Stands, Standing, standing}
+use Rattle.node_loop.specs.Writing.{Stands, Standing, has_failed, standing}
 use Rattle.node_loop.specs.Serving.{Serves}
-use Rattle.node_loop.proofs.LineLemmas.{goes-as, goes-same, goes-trans, goes-turn}
+use Rattle.node_loop.proofs.LineLemmas.{goes-as, goes-from, goes-same, goes-trans, goes-turn}
 use Rattle.node_loop.proofs.SendLemmas.{thrown}
 use Rattle.node_loop.proofs.TellLemmas.{written}
-use Rattle.node_loop.proofs.TurnLemmas.{at-heard, heard-is, on-any, read-next, seen-turn, sees-after, ticked-turn, turn-due, undelivered-turn, unheard-turn, unwritten-turn, within-unheard}
+use Rattle.node_loop.proofs.TurnLemmas.{at-heard, heard-is, on-any, read-next, seen-turn, sees-after, ticked-turn, turn-due, undelivered-turn, unheard-turn, unticked-turn, unwritten-turn, within-unheard}
 use Rattle.node_loop.proofs.turns.turn.Goals as goal
 
 pub returns-in_default-clause-spends : goal.returns-in_default-clause-spends
@@ -130,5 +132,45 @@ returns-clause-sees g c = λ s before r o at sees.
     (heard-is s before v l0 l1 t0 m p.sent r c.in-Ok.heard at c.in-Ok.ensures.hears) c.next_ticks-ticks.ensures.ticks in
     let read = read-next o r reading readings later p.made c.now.result sees c.now.ensures.reads in
     on-any c.tick_times.result _
+    (sees-after s p.millis p.base c.args.number o r reading readings p.made (g.C.Clock.state c.now.new.self).reading later c.next_ticks-ticks.new.self.made sees (c.now.ensures.kept ∙ read.0) read.1
+    (ap (λ x. x.made) c.next_ticks-ticks.ensures.made ∙ ap (λ (t : Turn). p.made + t.ticks) due))
+
+pub returns-in-Some-clause-spends : goal.returns-in-Some-clause-spends
+returns-in-Some-clause-spends g c =
+    goes-from _ _ _ _ _ _ _ _ _ c.deliver_unsigned.result (c.in-Ok.ensures.faults ∙ ap (λ (h : Heard). counted (has_failed (Ok h)) (g.L.Link.state c.args.link.now).faults) c.in-Some.ensures.got) c.deliver_unsigned.ensures.spends
+
+pub returns-in-Some-clause-serves : goal.returns-in-Some-clause-serves
+returns-in-Some-clause-serves g c = λ s before r o at0 sees.
+    let p = c.args.progress.now in
+    let sent : ℕ = c.next_ticks-ticks.new.self.sent in
+    let v = c.args.node.now in
+    let l0 = (g.L.Link.state c.args.link.now).contents in
+    let l1 = (g.L.Link.state c.hear.new.link).contents in
+    let t0 = (g.O.Sink.state c.args.out.now).taken in
+    let m = (g.D.Disk.state c.args.disk.now).moments in
+    let at : Stands s before (standing v l0 t0 m sent) r = subst (λ k. Stands s before (standing v l0 t0 m k) r) (sym (ap (λ x. x.sent) c.next_ticks-ticks.ensures.made)) at0 in
+    let made : Turn = record { number = c.args.number; heard = c.in-Ok.heard; ticks = c.next_ticks-ticks.result } in
+    let due = seen-turn p.millis p.base c.args.number o r (g.C.Clock.state c.args.clock.now).reading (g.C.Clock.state c.args.clock.now).coming (g.C.Clock.state c.now.new.self).coming p.made c.now.result c.next_ticks-ticks.result c.in-Ok.heard sees c.now.ensures.reads
+    (heard-is s before v l0 l1 t0 m sent r c.in-Ok.heard at c.in-Ok.ensures.hears) c.next_ticks-ticks.ensures.ticks in
+    let heard = at-heard s before v l0 l1 t0 m sent r c.in-Ok.heard at c.in-Ok.ensures.hears in
+    let w : Standing = standing c.deliver_unsigned.new.node (g.L.Link.state c.deliver_unsigned.new.link).contents (g.O.Sink.state c.deliver_unsigned.new.out).taken (g.D.Disk.state c.deliver_unsigned.new.disk).moments c.deliver_unsigned.new.sent in
+    turn-due s before r w made (turn_in p.millis p.base c.args.number o) c.deliver_unsigned.result due
+    (unticked-turn s before w r made c.deliver_unsigned.result c.in-Some.ensures.unticked (c.deliver_unsigned.ensures.serves s before (acted s r Receives) heard))
+
+pub returns-in-Some-clause-sees : goal.returns-in-Some-clause-sees
+returns-in-Some-clause-sees g c = λ s before r o at sees.
+    let p = c.args.progress.now in
+    let v = c.args.node.now in
+    let l0 = (g.L.Link.state c.args.link.now).contents in
+    let l1 = (g.L.Link.state c.hear.new.link).contents in
+    let t0 = (g.O.Sink.state c.args.out.now).taken in
+    let m = (g.D.Disk.state c.args.disk.now).moments in
+    let reading = (g.C.Clock.state c.args.clock.now).reading in
+    let readings = (g.C.Clock.state c.args.clock.now).coming in
+    let later = (g.C.Clock.state c.now.new.self).coming in
+    let due = seen-turn p.millis p.base c.args.number o r reading readings later p.made c.now.result c.next_ticks-ticks.result c.in-Ok.heard sees c.now.ensures.reads
+    (heard-is s before v l0 l1 t0 m p.sent r c.in-Ok.heard at c.in-Ok.ensures.hears) c.next_ticks-ticks.ensures.ticks in
+    let read = read-next o r reading readings later p.made c.now.result sees c.now.ensures.reads in
+    on-any c.deliver_unsigned.result _
     (sees-after s p.millis p.base c.args.number o r reading readings p.made (g.C.Clock.state c.now.new.self).reading later c.next_ticks-ticks.new.self.made sees (c.now.ensures.kept ∙ read.0) read.1
     (ap (λ x. x.made) c.next_ticks-ticks.ensures.made ∙ ap (λ (t : Turn). p.made + t.ticks) due))
