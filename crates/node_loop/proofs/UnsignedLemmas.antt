@@ -1,5 +1,5 @@
 -- What is read of bytes that bring no records, and how their delivery is served, with its turn's line in front.
-use Rattle.std.proofs.Common.{◌≡◌, ◌≢◌, ℕ, Bool, true, false, IfErr, List, [], ◌∷◌, ◌++◌, Option, Result, Ok, Err, inl, refl, sym, ap, ◌∙◌, subst, append-nil}
+use Rattle.std.proofs.Common.{◌≡◌, ◌≢◌, ℕ, true, false, IfErr, List, [], ◌∷◌, ◌++◌, Option, Result, Ok, Err, inl, refl, sym, ap, ◌∙◌, subst, append-nil}
 use Rattle.std.specs.Prelude.{OnOk, is_err, slice_index}
 use Rattle.fields.specs.declared.NoMemory.{NoMemory}
 use Rattle.std.proofs.lemmas.Bool.{false≢true}
@@ -17,11 +17,10 @@ use Rattle.journal.specs.declared.event.Event as journal
 use Rattle.journal.specs.declared.turn.Heard.{Heard}
 use Rattle.journal.specs.declared.turn.Turn.{Turn}
 use Rattle.journal.specs.Turns.{turn_text}
-use Rattle.signer.specs.Lives.{Spent}
 use Rattle.signer.specs.Signing.{SignerState}
 use Rattle.node_core.specs.Answers.{GivesCall}
 use Rattle.node_core.specs.Hears.{brings_records}
-use Rattle.node_core.specs.Playing.{Kept, IsNode}
+use Rattle.node_core.specs.Playing.{Kept}
 use Rattle.node_core.specs.Spending.{LivesOn, SpendsIn, spent_told}
 use Rattle.node_rules.specs.Nodes.{Setting}
 use Rattle.node_rules.specs.Calls.{Call}

@@ -1,5 +1,4 @@
-use Rattle.std.proofs.Common.{◌≡◌, ◌≢◌, ℕ, List, [], ◌∷◌, Ok, Err, refl, ap, ◌∙◌, subst, sym}
-use Rattle.ports.specs.Disk.{Moment}
+use Rattle.std.proofs.Common.{◌≡◌, ℕ, List, [], ◌∷◌, Ok, Err, refl, ap, ◌∙◌, subst, sym}
 use Rattle.ports.specs.Outside.{OfDisk}
 use Rattle.journal.specs.declared.event.Event as journal
 use Rattle.journal.specs.declared.turn.Turn.{Turn}
