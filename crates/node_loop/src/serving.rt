@@ -27,12 +27,13 @@ const ROOM: usize = 32_769;
 /// milliseconds since the call began, of which a turn makes 64 at the most and leaves the rest to the next. Where it is to
 /// leave, it does so behind the last turn, once.
 ///
-/// What the node reports is written: the lines up to and with that of a datagram in one piece, and those behind the last in
-/// one. The turn's line is in the first of these pieces where what was got brings no records and no ticks are owed, and else
-/// a piece of its own, written before what may bring a signature. A datagram has the number of those sent before it in this
-/// call: it is given to the link once its line is written, for the port in its addressee's certificate. A send that fails
-/// is followed by the line `lost`, and a receive that fails is the turn's word `failed`: neither ends the loop. The link is
-/// told from which port each certified member sends, those whose certificates are accepted in a turn among them.
+/// What the node reports is written: the lines up to and with that of a datagram in one piece, and those behind the last
+/// in one. The turn's line is in the first of these pieces where what was got has the kind of a ping, a pong or a
+/// summary, and no ticks are owed; else it is a piece of its own, in front of what may bring a signature. A datagram has
+/// the number of those sent before it in this call: it is given to the link once its line is written, for the port in its
+/// addressee's certificate. A send that fails is followed by the line `lost`, and a receive that fails is the turn's word
+/// `failed`: neither ends the loop. The link is told from which port each certified member sends, those whose
+/// certificates are accepted in a turn among them.
 ///
 /// Where the disk fails in a call of the node, what that reported until then is still written and sent, and the answer is
 /// `StoreFault`. `WriteFault` comes where a write failed. The node is over behind a `StoreFault`, and where memory was

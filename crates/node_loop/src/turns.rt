@@ -122,7 +122,8 @@ fn deliver_heard<D: Disk, L: Link, O: Sink>(
 }
 
 /// One turn: hears the link, reads the clock, writes the turn's line, delivers what was got, and makes the ticks that are
-/// owed. Where what was got brings no records and no ticks are owed, the line is written with what the delivery reports.
+/// owed. Where what was got has the kind of a ping, a pong or a summary, and no ticks are owed, the line is written with what
+/// the delivery reports.
 pub fn turn<D: Disk, L: Link, C: Clock, O: Sink>(
     alloc: Global,
     node: &mut Node,
