@@ -1,5 +1,5 @@
 -- The order of keys on a ring, and what a search among keys in order has come to.
-use Rattle.std.proofs.Common.{◌≡◌, ℕ, ◌+◌, ◌-◌, ◌*◌, ◌/◌, ◌^◌, ◌<◌, ◌≤◌, Bool, cond, true, false, List, Option, Some, None, [], length, get_or, inl, inr, refl, sym, ap, ◌∙◌, subst, arith}
+use Rattle.std.proofs.Common.{◌≡◌, ℕ, zero, suc, nat_eq, ◌+◌, ◌-◌, ◌*◌, ◌/◌, ◌^◌, ◌<◌, ◌≤◌, Bool, cond, true, false, List, Option, Some, None, [], length, get_or, inl, inr, refl, sym, ap, ◌∙◌, subst, arith}
 use Rattle.std.specs.Ordering.{is_lt}
 use Rattle.std.specs.Option.{unwrap_or, IfSome, IsSomeAnd}
 use Rattle.std.specs.declared.cmp.Ordering.{Ordering}
@@ -144,3 +144,9 @@ IsBetween-halved slots row q low left more false h between some is goes =
     let le : low ≤ middle = omega arith in
     let lt : middle < low + left = omega arith in
     IsBetween-wider slots row q low middle (low + more) (low + more + left / 2) (IsBetween-below slots row q low middle (low + left) h between le lt is) (omega (arith, goes)) (omega (arith, goes)) (omega (arith, goes, between.within))
+
+-- Of the two numbers in the middles of what may be left, the one that is chosen is in the middle of what is left.
+pub middle_of_rest : (order : List ℕ) (low half step behind other near far : ℕ) → behind ≤ 1 → near ≡ get_or order (low + step - 1) 0 → far ≡ get_or order (low + half + step - 1) 0 → other ≡ cond (nat_eq behind 1) far near → other ≡ get_or order (low + half * behind + step - 1) 0
+middle_of_rest order low half step zero other near far le n f o = o ∙ n ∙ ap (λ i. get_or order i 0) (omega arith)
+middle_of_rest order low half step (suc zero) other near far le n f o = o ∙ f ∙ ap (λ i. get_or order i 0) (omega arith)
+middle_of_rest order low half step (suc (suc more)) other near far le n f o = absurd (omega arith)

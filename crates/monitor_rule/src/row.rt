@@ -44,6 +44,15 @@ impl Model for Row {
         × ((MEMBERS ≤ vec_capacity r.ranks) × (length r.ranks.items ≤ MEMBERS)) };
 }
 
+/// The second of two numbers where `behind` is 1, and the first where it is 0. It is reckoned, and no branch tells it.
+#[inline]
+fn one_of(behind: usize, near: usize, far: usize) -> usize
+    requires { behind ≤ 1 }
+    ensures { result ≡ (if behind == 1 then far else near) }
+{
+    near.wrapping_add(far.wrapping_sub(near).wrapping_mul(behind))
+}
+
 /// Makes the list reach this member, for which it has room.
 fn reach(ranks: &mut Vec<Rank>, member: MemberId)
     requires few { length ranks.old.items ≤ MEMBERS }
@@ -425,13 +434,27 @@ impl Row {
         ensures most { 2 ^ (steps.new - steps.old) ≤ 2 * count + 1 }
         ensures least { count < 2 ^ (steps.new - steps.old) }
     {
+        // A list of members is short enough for the sums.
+        let _ = &self.order;
+        if count == 0 {
+            return from;
+        }
         let mut low = from;
         let mut left = count;
-        while 0 < left {
-            low += self.skipped_by_hints(slots, low, left, member, places, hint, steps);
+        let mut other = self.middle(low, left);
+        while 1 < left {
+            let half = left - left / 2;
+            // Both are looked up before it is told which comes next, so that no step waits for a look at the order.
+            let near = self.middle(low, left / 2);
+            let far = self.middle(low + half, left / 2);
+            let behind = self.is_middle_behind(
+                slots, low, left, other, member, places, hint, steps,
+            );
+            other = one_of(behind, near, far);
+            low += half * behind;
             left /= 2;
         }
-        low
+        low + self.is_middle_behind(slots, low, left, other, member, places, hint, steps)
     }
 
     /// As `halve`, where some hints may not tell. Apart, so that a search by hints saves no registers.
@@ -468,14 +491,25 @@ impl Row {
         low
     }
 
-    /// How far the search goes on, of so many members from an index on among which the place is: behind the middle one of
-    /// them, or nowhere. Then half as many are left.
+    /// The number of the middle one of so many members from an index on.
     #[inline]
-    fn skipped_by_hints<L: Ledger>(
+    fn middle(&self, low: usize, left: usize) -> usize
+        requires some { 0 < left }
+        requires within { low + left ≤ length self.now.order }
+        ensures { result ≡ slice_index self.now.order (low + (left - left / 2) - 1) }
+    {
+        self.order[low + (left - left / 2) - 1].get() as usize
+    }
+
+    /// 1 where the middle one, which has this number, of so many members from an index on among which the place is comes
+    /// before this one, and else 0. The search goes on behind it, or where it was, and half as many are left.
+    #[inline]
+    fn is_middle_behind<L: Ledger>(
         &self,
         slots: &Slots,
         low: usize,
         left: usize,
+        other: usize,
         member: MemberId,
         places: &Places,
         hint: u32,
@@ -489,18 +523,19 @@ impl Row {
         requires between { IsBetween slots.now self.now (key_at self.now.ring places.now member) low
             (low + left) }
         requires some { 0 < left }
+        requires middle { other ≡ slice_index self.now.order (low + (left - left / 2) - 1) }
         ensures between { IsBetween slots.now self.now (key_at self.now.ring places.now member)
-            (low + result) (low + result + left / 2) }
-        ensures fits { low + result < 2 ^ 64 }
+            (low + (left - left / 2) * result) (low + (left - left / 2) * result + left / 2) }
+        ensures range { result ≤ 1 }
         ensures step { steps.new ≡ steps.old + 1 }
     {
-        // A list of members is short enough for the sum.
         let _ = &self.order;
-        let half = left - left / 2;
-        half * self.is_behind_by_hint(slots, low + half - 1, member, places, hint, steps)
+        let index = low + (left - left / 2) - 1;
+        self.is_number_behind(slots, index, other, member, places, hint, steps)
     }
 
-    /// As `skipped_by_hints`, where some hints may not tell.
+    /// How far the search goes on, of so many members from an index on among which the place is, where some hints may not
+    /// tell: behind the middle one of them, or nowhere. Then half as many are left.
     fn skipped_by_places<L: Ledger>(
         &self,
         slots: &Slots,
@@ -639,8 +674,36 @@ impl Row {
             (key_at self.now.ring places.now member) then 1 else 0) }
         ensures step { steps.new ≡ steps.old + 1 }
     {
+        let other = self.order[index].get() as usize;
+        self.is_number_behind(slots, index, other, member, places, hint, steps)
+    }
+
+    /// As `is_behind_by_hint`, where the member at the index has this number.
+    #[inline]
+    fn is_number_behind<L: Ledger>(
+        &self,
+        slots: &Slots,
+        index: usize,
+        other: usize,
+        member: MemberId,
+        places: &Places,
+        hint: u32,
+        steps: &mut Steps<L>,
+    ) -> usize
+        requires in_order { IsRow slots.now self.now }
+        requires long { length slots.now ≡ MEMBERS }
+        requires hinted { hint ≡ hint_on self.now.ring places.now }
+        requires told { self.now.told ≡ true }
+        requires tells { hint < 2 ^ 32 - 1 }
+        requires within { index < length self.now.order }
+        requires at { other ≡ slice_index self.now.order index }
+        ensures value { result
+            ≡ (if is_below (key_of_index slots.now self.now index)
+            (key_at self.now.ring places.now member) then 1 else 0) }
+        ensures range { result ≤ 1 }
+        ensures step { steps.new ≡ steps.old + 1 }
+    {
         let own = Rank::new(hint, member);
-        let other = self.order[index];
-        self.ranks[other.get() as usize].precedes(own, steps)
+        self.ranks[other].precedes(own, steps)
     }
 }
