@@ -2,6 +2,8 @@
 use Rattle.std.specs.Prelude.{◌≡◌, ℕ, ◌<◌, Bool, true, false, List, [], ◌++◌, length, Option, None, Some, Result, Ok, Err}
 use Rattle.std.specs.Io.KnownBytes.{Consumes}
 use Rattle.ports.specs.Contents.{IsUsedUp}
+use Rattle.ports.specs.LineReading.{ReadsWhole}
+use Rattle.ports.specs.declared.Ending.TheVariants as ending
 use Rattle.text_trace.specs.Lines.{has_no_feed, IsFed}
 use Rattle.edges.specs.declared.line_part.Part.{Part}
 use Rattle.edges.specs.declared.line_part.Part.TheVariants as part
@@ -33,3 +35,8 @@ abbrev pub took_part : {E : Type 0} → Result (Option Part) E → Bool
 took_part (Ok (Some p)) = true
 took_part (Ok None) = false
 took_part (Err _) = false
+
+-- A whole line was taken, or nothing.
+abbrev pub TakesLine : Option (List ℕ) → Option (List ℕ) → List ℕ → Bool → Type 0
+TakesLine before after line true = ReadsWhole before after line ending.Feed
+TakesLine before after line false = line ≡ []

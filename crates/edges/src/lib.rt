@@ -7,12 +7,14 @@
 //! counted, those of the link what becomes of its queues, and tests move real bytes.
 #![tactic(auto)]
 
-ghost use Rattle.std.specs.Prelude.{◌≡◌, ◌+◌, ◌<◌, ◌≤◌, true, false, length, IfOk, vec_len, vec_capacity};
+ghost use Rattle.std.specs.Prelude.{◌≡◌, ◌+◌, ◌<◌, ◌≤◌, true, false, [], length, IfOk, vec_len, vec_capacity};
 ghost use Rattle.std.specs.Result.{is_err};
 ghost use Rattle.std.specs.Io.{ReadsAtMost, WritesAtMost};
 ghost use Rattle.std.specs.Io.KnownBytes.{ReadConsumes, WriteAppends};
 ghost use Rattle.std.specs.Io.Buffered.{reader_remaining};
 ghost use Rattle.ports.specs.Count.{counted, next_count};
+ghost use Rattle.ports.specs.LineReading.{ReadsLine, is_going};
+ghost use Rattle.ports.specs.Writing.{Gives, TookAtMost, TookSome, has_taken, write_failed};
 ghost use Rattle.text_trace.specs.Lines.{seen_bytes};
 ghost use Rattle.edges.specs.Parts.{TakesPart, took_part};
 
@@ -26,7 +28,7 @@ mod udp_link;
 pub use absent::{Absent, NoClock};
 use fields::NoMemory;
 pub use file_disk::FileDisk;
-use line_part::{Part, take_buffered};
+use line_part::{Part, take_buffered, take_line};
 use ports::{Ending, Failed, Given, Sink, Source, Taken};
 pub use real_clock::RealClock;
 use std::alloc::Global;
@@ -55,12 +57,12 @@ fn read_uninterrupted<R: Read>(reader: &mut R, buf: &mut [u8]) -> io::Result<usi
     Err(io::ErrorKind::Interrupted.into())
 }
 
-/// One write, made again where a signal interrupts it.
+/// One write, made again where a signal interrupts it: as often as a call is made but for once.
 fn write_uninterrupted<W: Write>(writer: &mut W, bytes: &[u8]) -> io::Result<usize>
     ensures bound { WritesAtMost result bytes.now }
     ensures bytes { WriteAppends (W.contents writer.old) (W.contents writer.new) result bytes.now }
 {
-    for _ in 0..TRIES {
+    for _ in 1..TRIES {
         match writer.write(bytes) {
             Err(error) if error.kind() == io::ErrorKind::Interrupted => {}
             answer => return answer,
@@ -160,6 +162,30 @@ impl<R: Read + Drop> StdSource<R> {
             Ok(Some(take_buffered(&mut self.reader, room, line)))
         }
     }
+
+    /// Reads a line in parts. Apart: most lines stand in the buffer whole.
+    #[cold]
+    #[inline(never)]
+    fn read_parts(&mut self, line: &mut Vec<u8>) -> Result<Ending, Failed>
+        requires open { self.old.is_open ≡ true }
+        requires empty { line.old.items ≡ [] }
+        requires room { seen_bytes ≤ vec_capacity line.old }
+        ensures room { seen_bytes ≤ vec_capacity line.new }
+        ensures going { self.new.is_open ≡ is_going result }
+        ensures faults { self.new.faults ≡ counted (is_err result) self.old.faults }
+        ensures reads { ReadsLine (reader_remaining R.remaining self.old.reader)
+            (reader_remaining R.remaining self.new.reader) line.new.items result }
+    {
+        'parts: while line.len() < SEEN_BYTES {
+            match self.take_part(SEEN_BYTES - line.len(), line) {
+                Ok(Some(Part::Last)) => return Ok(Ending::Feed),
+                Ok(Some(Part::Front)) => {}
+                Ok(None) => return Ok(Ending::Input),
+                Err(Failed) => return Err(Failed),
+            }
+        }
+        Ok(Ending::Limit)
+    }
 }
 
 impl<R: Read + Drop> Source for StdSource<R> {
@@ -183,15 +209,11 @@ impl<R: Read + Drop> Source for StdSource<R> {
     /// The line feed is looked for in the buffer, and what stands up to it is taken at once.
     fn read_line(&mut self, line: &mut Vec<u8>) -> Result<Ending, Failed> {
         line.clear();
-        'parts: while line.len() < SEEN_BYTES {
-            match self.take_part(SEEN_BYTES - line.len(), line) {
-                Ok(Some(Part::Last)) => return Ok(Ending::Feed),
-                Ok(Some(Part::Front)) => {}
-                Ok(None) => return Ok(Ending::Input),
-                Err(Failed) => return Err(Failed),
-            }
+        if take_line(&mut self.reader, line) {
+            Ok(Ending::Feed)
+        } else {
+            self.read_parts(line)
         }
-        Ok(Ending::Limit)
     }
 }
 
@@ -230,6 +252,27 @@ impl<W: Write + Drop> StdSink<W> {
         self.faults = self.faults.saturating_add(1);
         Given::Failed
     }
+
+    /// What comes of a write that had this error: one that a signal interrupted is made again. Apart, since it is rare.
+    #[cold]
+    #[inline(never)]
+    fn write_again(&mut self, error: &io::Error, bytes: &[u8]) -> Given
+        requires open { self.old.is_open ≡ true }
+        ensures going { self.new.is_open ≡ has_taken result }
+        ensures faults { self.new.faults ≡ counted (write_failed result) self.old.faults }
+        ensures fits { TookAtMost result (length bytes.now) }
+        ensures some { TookSome result (length bytes.now) }
+        ensures gives { Gives (W.contents self.old.writer) (W.contents self.new.writer) bytes.now
+            result }
+    {
+        if error.kind() != io::ErrorKind::Interrupted {
+            return self.fail();
+        }
+        match write_uninterrupted(&mut self.writer, bytes) {
+            Ok(count) if 0 < count => Given::Took(count),
+            _ => self.fail(),
+        }
+    }
 }
 
 impl<W: Write + Drop> Sink for StdSink<W> {
@@ -243,9 +286,10 @@ impl<W: Write + Drop> Sink for StdSink<W> {
         if bytes.is_empty() {
             return Given::Took(0);
         }
-        match write_uninterrupted(&mut self.writer, bytes) {
+        match self.writer.write(bytes) {
             Ok(count) if count > 0 => Given::Took(count),
-            _ => self.fail(),
+            Ok(_) => self.fail(),
+            Err(error) => self.write_again(&error, bytes),
         }
     }
 }

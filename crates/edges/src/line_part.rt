@@ -1,12 +1,13 @@
 //! A line, taken from the buffer of a reader a part at a time.
 
-ghost use Rattle.std.specs.Prelude.{◌≡◌, ◌+◌, ◌<◌, ◌≤◌, length, take, vec_len, vec_capacity};
+ghost use Rattle.std.specs.Prelude.{◌≡◌, ◌+◌, ◌<◌, ◌≤◌, false, [], length, take, vec_len, vec_capacity, IfSome};
 ghost use Rattle.std.specs.Io.Buffered.{reader_buffer, reader_remaining};
-ghost use Rattle.text_trace.specs.Lines.{seen_bytes};
-ghost use Rattle.edges.specs.Parts.{Gained, IsPart};
+ghost use Rattle.text_trace.specs.Lines.{seen_bytes, IsFed};
+ghost use Rattle.edges.specs.Parts.{Gained, IsPart, TakesLine};
 
 use memchr::memchr;
 use std::io::{BufRead, BufReader, Read};
+use text_trace::SEEN_BYTES;
 
 /// What a part of a line is.
 #[derive(Clone, Copy, Debug, PartialEq, Eq)]
@@ -56,4 +57,39 @@ pub(crate) fn take_buffered<R: Read>(
     };
     reader.consume(count);
     part
+}
+
+/// How many bytes the line has that stands in front, where its line feed is among those that are seen of it.
+fn line_in(bytes: &[u8]) -> Option<usize>
+    ensures within { IfSome result (λ n. n ≤ length bytes.now) }
+    ensures seen { IfSome result (λ n. n ≤ seen_bytes) }
+    ensures line { IfSome result (λ n. IsFed (take n bytes.now)) }
+{
+    let front = &bytes[..bytes.len().min(SEEN_BYTES)];
+    match memchr(b'\n', front) {
+        Some(place) => Some(place + 1),
+        None => None,
+    }
+}
+
+/// Takes the line in front where the buffer has it whole, and says whether it has.
+pub(crate) fn take_line<R: Read>(reader: &mut BufReader<R>, line: &mut Vec<u8>) -> bool
+    requires empty { line.old.items ≡ [] }
+    requires reserved { seen_bytes ≤ vec_capacity line.old }
+    ensures reserved { seen_bytes ≤ vec_capacity line.new }
+    ensures takes { TakesLine (reader_remaining R.remaining reader.old)
+        (reader_remaining R.remaining reader.new) line.new.items result }
+    ensures same { result ≡ false → reader.new ≡ reader.old }
+{
+    let bytes = reader.buffer();
+    match line_in(bytes) {
+        Some(count) => {
+            let Ok(()) = line.extend_from_slice(&bytes[..count]) else {
+                unreachable!()
+            };
+            reader.consume(count);
+            true
+        }
+        None => false,
+    }
 }

@@ -16,7 +16,7 @@ ghost use Rattle.text_trace.specs.Lines.{text_lines};
 ghost use Rattle.trace.specs.Answers.{Recorded, answer as answer_to, answer_in, answer_text, first_life, monitor_answer, plain_group, verdict_on};
 ghost use Rattle.replay.specs.Plays.{Plays, PlaysOne, Tells, FitsLife, FitsOn};
 
-use crate::report::{add, add_report, add_verdict, add_verdict_on};
+use crate::report::{add, add_monitor, add_report, add_verdict, add_verdict_on};
 use ff_ids::{AccBody, Fault, Group, MemberId, NoteBody, RingNo};
 use fields::NoMemory;
 use life_events::{Told, Verdict};
@@ -208,11 +208,10 @@ impl Life {
     {
         if self.membership.is_member(member) {
             let monitor = monitor_of::<Brand>(Blank::new(1), &self.membership, ring, member);
-            add_verdict(text, Verdict::Monitor(monitor))?;
+            add_monitor(text, monitor)
         } else {
-            add_verdict(text, Verdict::Refused(Fault::UnknownMember))?;
+            add_verdict_on(text, Some(Fault::UnknownMember))
         }
-        add(text, b"\n")
     }
 
     /// Runs a line below that of the group.

@@ -1,12 +1,13 @@
 //! What is written behind a line: a verdict, and a line for each event.
 
 ghost use Rattle.std.specs.Prelude.{◌≡◌, ◌++◌, ◌∷◌, [], OnOk, codes, map};
+ghost use Rattle.ff_ids.specs.Texts.{monitor_text};
 ghost use Rattle.life_events.specs.Verdicts.{verdict_words};
 ghost use Rattle.trace.specs.Answers.{events_at, events_text, verdict_on};
 
 use ff_ids::{AccBody, Fault, MemberId};
 use fields::NoMemory;
-use life_events::{Event, Verdict, What, write_event, write_verdict};
+use life_events::{Event, Verdict, What, write_event, write_number, write_verdict};
 use membership::Changes;
 
 /// Adds bytes to the text.
@@ -35,6 +36,21 @@ pub fn add_verdict_on(text: &mut Vec<u8>, fault: Option<Fault>) -> Result<(), No
         None => add(text, b" : accepted\n"),
         Some(fault) => {
             add_verdict(text, Verdict::Refused(fault))?;
+            add(text, b"\n")
+        }
+    }
+}
+
+/// Adds ` : `, the monitor, or `none` where there is none, and a line feed.
+pub fn add_monitor(text: &mut Vec<u8>, monitor: Option<MemberId>) -> Result<(), NoMemory>
+    ensures { OnOk result
+        (text.new.items ≡ text.old.items ++ codes " : " ++ monitor_text monitor ++ codes "\n") }
+{
+    match monitor {
+        None => add(text, b" : none\n"),
+        Some(member) => {
+            add(text, b" : ")?;
+            write_number(member.get().into(), text)?;
             add(text, b"\n")
         }
     }

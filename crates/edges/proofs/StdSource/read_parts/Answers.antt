@@ -1,6 +1,6 @@
 use Rattle.std.proofs.Common.{arith}
 use Rattle.edges.proofs.PartLemmas.{last-fed}
-use Rattle.edges.proofs.StdSourceSource.read_line.Goals as goal
+use Rattle.edges.proofs.StdSource.read_parts.Goals as goal
 
 pub returns-in-Ok-Some-Last-clause-reads : goal.returns-in-Ok-Some-Last-clause-reads
 returns-in-Ok-Some-Last-clause-reads g c =

@@ -2,7 +2,7 @@ use Rattle.std.proofs.Common.{◌≡◌, ◌≤◌, ◌-◌, true, vec_capacity,
 use Rattle.std.specs.Io.Buffered.{reader_remaining}
 use Rattle.std.specs.Io.KnownBytes.{Consumes}
 use Rattle.text_trace.specs.Lines.{has_no_feed, seen_bytes}
-use Rattle.edges.proofs.StdSourceSource.read_line.Given as goal
+use Rattle.edges.proofs.StdSource.read_parts.Given as goal
 
 -- what was taken so far has no line feed
 abbrev pub invariant-parts : goal.invariant-parts
