@@ -5,5 +5,6 @@ pub mod Views
 pub mod Faults
 pub mod Steps
 pub mod Lives
+pub mod Keys
 pub mod Texts
 pub mod Summaries

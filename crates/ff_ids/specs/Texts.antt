@@ -3,6 +3,7 @@ use Rattle.std.specs.Prelude.{ℕ, List, ◌++◌, Option, Some, None, codes}
 use Rattle.std.specs.Fmt.{decimal}
 use Rattle.hex.specs.Hex.{encode_lower}
 use Rattle.ff_ids.specs.declared.AccBody.{AccBody}
+use Rattle.ff_ids.specs.Keys.{listed}
 use Rattle.ff_ids.specs.declared.Fault.{Fault}
 use Rattle.ff_ids.specs.declared.Fault.TheVariants as faults
 
@@ -31,6 +32,6 @@ fault_text faults.RingDisabled = codes "ring-disabled"
 fault_text (faults.NotMonitor monitor) = codes "not-monitor " ++ monitor_text monitor
 fault_text faults.Standing = codes "standing"
 fault_text faults.BadSignature = codes "bad-signature"
-fault_text (faults.OtherCertificate port key) = codes "other-certificate " ++ decimal port ++ codes " " ++ encode_lower key
+fault_text (faults.OtherCertificate port key) = codes "other-certificate " ++ decimal port ++ codes " " ++ encode_lower (listed key)
 fault_text (faults.OwnAhead stored seen) =
     codes "own-ahead " ++ decimal stored.epoch ++ codes " " ++ decimal stored.mask.0 ++ codes " " ++ decimal seen.epoch ++ codes " " ++ decimal seen.mask.0

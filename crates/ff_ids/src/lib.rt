@@ -6,6 +6,7 @@ ghost use Rattle.std.specs.Prelude.{◌≡◌, ◌<◌, ◌≤◌, ◌^◌, leng
 ghost use Rattle.ff_ids.specs.Masks.{enables, enabled, is_wide as are_wide, good_mask as is_good, note_mask as is_allowed, all_rings as mask_of_all};
 ghost use Rattle.ff_ids.specs.Notes.{is_leaving as leaves_by};
 ghost use Rattle.ff_ids.specs.Views.{in_view_by};
+ghost use Rattle.ff_ids.specs.Keys.{listed};
 
 mod digits;
 mod summary;
@@ -157,6 +158,28 @@ pub struct AccBody {
     pub ring: RingNo,
 }
 
+/// The bytes of a member's public key.
+#[derive(Clone, Copy, Debug, PartialEq, Eq)]
+pub enum KeyBytes {
+    /// Those of a key of one level: 56 (RFC 8554, section 5.3).
+    Lms([u8; 56]),
+    /// Those of a key of two levels: 60 (RFC 8554, section 6.1).
+    Hss([u8; 60]),
+}
+
+impl KeyBytes {
+    /// The 56 or 60 bytes.
+    pub fn as_slice(&self) -> &[u8]
+        ensures value { result.now ≡ listed self.now }
+        ensures few { length result.now ≤ 60 }
+    {
+        match self {
+            KeyBytes::Lms(bytes) => bytes,
+            KeyBytes::Hss(bytes) => bytes,
+        }
+    }
+}
+
 /// Why a record is refused. The first that holds, in the order of the rules, is the answer.
 #[derive(Clone, Copy, Debug, PartialEq, Eq)]
 pub enum Fault {
@@ -168,8 +191,8 @@ pub enum Fault {
     BadMask,
     /// This certificate is kept, or this note is the newest of its member.
     Known,
-    /// Another certificate is kept for the number, and these are its port and its key's 56 bytes.
-    OtherCertificate { port: u16, key: [u8; 56] },
+    /// Another certificate is kept for the number, and these are its port and its key's bytes.
+    OtherCertificate { port: u16, key: KeyBytes },
     /// The newest note of the member, whose epoch and mask these are, is greater.
     Older { epoch: Epoch, mask: Mask },
     /// The accuser is the accused.

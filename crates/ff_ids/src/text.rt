@@ -3,9 +3,10 @@
 ghost use Rattle.std.specs.Prelude.{Some};
 ghost use Rattle.std.specs.Fmt.{decimal};
 ghost use Rattle.hex.specs.Hex.{encode_lower};
+ghost use Rattle.ff_ids.specs.Keys.{listed};
 ghost use Rattle.ff_ids.specs.Texts.{accusation_text, fault_text};
 
-use crate::{AccBody, Digits, Epoch, Fault, Mask, MemberId, RingNo};
+use crate::{AccBody, Digits, Epoch, Fault, KeyBytes, Mask, MemberId, RingNo};
 use std::fmt;
 
 impl fmt::Display for MemberId {
@@ -55,15 +56,15 @@ impl fmt::Display for AccBody {
     }
 }
 
-/// The 56 bytes of a key as digits.
+/// The bytes of a key as digits.
 #[derive(Drop)]
-struct KeyDigits([u8; 56]);
+struct KeyDigits(KeyBytes);
 
 impl fmt::Display for KeyDigits {
-    ghost output = { λ key. Some (encode_lower key.0) };
+    ghost output = { λ key. Some (encode_lower (listed key.0)) };
 
     fn fmt<W: fmt::Write>(&self, f: &mut fmt::Formatter<W>) -> fmt::Result {
-        Digits(&self.0).fmt(f)
+        Digits(self.0.as_slice()).fmt(f)
     }
 }
 

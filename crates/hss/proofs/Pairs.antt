@@ -19,7 +19,8 @@ use Rattle.lms_tree.proofs.Signatures.{signature-verifies}
 use Rattle.lms_tree.proofs.Verdicts.{verifies-length}
 use Rattle.hss.specs.declared.bottom.Bottom.{Bottom}
 use Rattle.hss.specs.declared.secret.PairSecret.{PairSecret}
-use Rattle.hss.specs.Hss.{HssVerifies, is_in_profile, key_place, signature_bytes}
+use Rattle.hss.specs.Keys.{is_in_profile}
+use Rattle.hss.specs.Hss.{HssVerifies, key_place, signature_bytes}
 use Rattle.hss.specs.Pairs.{LeavesDiffer, TopSignsOneKey, bottom_id, bottom_secret, front_of, index_count, key_signature_of, leaf_of, public_of, signature_of, top_secret, tree_of}
 use Rattle.hss.specs.Trees.{IsHeld, IsTree}
 use Rattle.hss.proofs.Keys.{length-key}
@@ -112,6 +113,7 @@ pair-verifies pair n message within profile =
       bottom_key = key;
       bottom = lms.signature_of bottom (leaf_of pair n) message;
       is_key = public_are bottom (length-bottom_id pair.seed q);
+      key_in_profile = public_profile (top_secret pair) profile;
       in_profile = public_profile bottom profile;
       spelled = refl;
       signs_key = signature-verifies (top_secret pair) q (lms.key_bytes key) (tree-within pair n within);
@@ -180,7 +182,11 @@ top-signs-one-key pair n message within =
     let long = length-signature (top_secret pair) q bytes (tree-within pair n within) in
     let place = key_place (public_of pair) in
     let kinds : place ≡ 4 + kinds.signature_length pair.top pair.ots = ap (λ k. 4 + k) (public-kinds (top_secret pair)) in
-    ap (λ s. slice_range s 4 place) (append_assoc (one ++ top) bytes bottom) ∙ middle one top (bytes ++ bottom) 4 place refl (omega arith)
+    let key_long : length bytes ≡ 56 = length-public (bottom_secret pair q) (length-bottom_id pair.seed q) in
+    record {
+      top = ap (λ s. slice_range s 4 place) (append_assoc (one ++ top) bytes bottom) ∙ middle one top (bytes ++ bottom) 4 place refl (omega arith);
+      key = middle (one ++ top) bytes bottom place (place + 56) (omega (arith, length-append one top)) (omega arith);
+    }
 
 leaves_differ : (bottom : TreeKind) (n m : ℕ) → n / leaf_count bottom ≡ m / leaf_count bottom
     → n % leaf_count bottom ≡ m % leaf_count bottom → n ≡ m

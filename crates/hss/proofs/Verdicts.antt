@@ -14,12 +14,13 @@ use Rattle.lms_tree.specs.Lms.{Verifies}
 use Rattle.lms_tree.proofs.Keys.{key-again, key-are}
 use Rattle.lms_tree.proofs.Parts.{four_parts, middle, number-spelled, part-below}
 use Rattle.lms_tree.proofs.Verdicts.{verifies-length}
-use Rattle.hss.specs.declared.key.HssKey.{HssKey}
-use Rattle.hss.specs.Hss.{HssVerifies, both, bottom_in, in_profile, is_in_profile, key_end, key_part, key_place, signature_bytes, top_in, verdict_of}
+use Rattle.hss.specs.Keys.{TwoLevelKey}
+use Rattle.hss.specs.Keys.{is_in_profile}
+use Rattle.hss.specs.Hss.{HssVerifies, both, bottom_in, in_profile, key_end, key_part, key_place, signature_bytes, top_in, verdict_of}
 use Rattle.hss.proofs.Keys.{length-key}
 
 -- the parts of a good signature, as they are read
-pub record Parts (key : HssKey) (message signature : List ℕ) : Type 0 where
+pub record Parts (key : TwoLevelKey) (message signature : List ℕ) : Type 0 where
   pub bottom_key : PublicKey
   pub long : length signature ≡ key_end key + signature_length bottom_key.tree bottom_key.ots
   pub levels : ots.number_at 0 signature ≡ 1
@@ -32,7 +33,7 @@ profile_kept key e = rw e refl
 
 -- ---- the parts of what verifies
 
-pub verifies-parts : (key : HssKey) (message signature : List ℕ) → HssVerifies key message signature
+pub verifies-parts : (key : TwoLevelKey) (message signature : List ℕ) → HssVerifies key message signature
     → Parts key message signature
 unfolding signature_bytes
 verifies-parts key message signature good =
@@ -65,6 +66,19 @@ verifies-parts key message signature good =
       signs_message = rw bottom_is good.signs_message;
     }
 
+-- the length of what verifies
+pub hss-length : (key : TwoLevelKey) (message signature : List ℕ) → (good : HssVerifies key message signature)
+    → length signature ≡ 60 + signature_length key.top.tree key.top.ots + signature_length good.bottom_key.tree good.bottom_key.ots
+unfolding signature_bytes
+hss-length key message signature good =
+    let one = to_be_bytes w32 1 in
+    let bytes = lms.key_bytes good.bottom_key in
+    let top_long = verifies-length key.top bytes good.top good.signs_key in
+    let bottom_long = verifies-length good.bottom_key message good.bottom good.signs_message in
+    let key_long : length bytes ≡ 56 = length-key good.bottom_key good.is_key.id good.is_key.root in
+    ap length good.spelled
+    ∙ omega (arith, top_long, bottom_long, key_long, length-append (one ++ good.top ++ bytes) good.bottom, length-append (one ++ good.top) bytes, length-append one good.top)
+
 -- ---- what has these parts verifies
 
 abbrev there : PublicKey → Option PublicKey
@@ -91,10 +105,10 @@ profile_ok : (r : Result PublicKey KeyFault) (k : PublicKey) → in_profile r �
 profile_ok (Ok key) k e = picked key k (is_in_profile key.ots) refl e
 profile_ok (Err fault) k e = cc
 
-pub parts-verify : (key : HssKey) (message signature : List ℕ) → ((k : ℕ) → get_or signature k 0 < 256)
-    → Parts key message signature → HssVerifies key message signature
+pub parts-verify : (key : TwoLevelKey) (message signature : List ℕ) → ((k : ℕ) → get_or signature k 0 < 256)
+    → is_in_profile key.top.ots ≡ true → Parts key message signature → HssVerifies key message signature
 unfolding signature_bytes
-parts-verify key message signature below parts =
+parts-verify key message signature below profile parts =
     let place = key_place key in
     let n = length signature in
     let top = top_in key signature in
@@ -110,6 +124,7 @@ parts-verify key message signature below parts =
       bottom_key = parts.bottom_key;
       bottom = bottom_in key signature;
       is_key = record { spelled = refl; id = are.id; root = are.root };
+      key_in_profile = profile;
       in_profile = read.profile;
       spelled = spelled ∙ ap (λ p. to_be_bytes w32 1 ++ top ++ p ++ bottom_in key signature) are.spelled;
       signs_key = rw (← are.spelled) parts.signs_key;
@@ -119,18 +134,18 @@ parts-verify key message signature below parts =
 -- ---- the verdict
 
 -- the one bottom key that a signature has
-pub bottom-same : (key : HssKey) (message signature : List ℕ) (bottom : PublicKey) → (parts : Parts key message signature)
+pub bottom-same : (key : TwoLevelKey) (message signature : List ℕ) (bottom : PublicKey) → (parts : Parts key message signature)
     → in_profile (lms.key_in (key_part key signature)) ≡ Some bottom → parts.bottom_key ≡ bottom
 bottom-same key message signature bottom parts read = there_is parts.bottom_key bottom (sym parts.read ∙ read)
 
-pub bottom-verifies : (key : HssKey) (message signature : List ℕ) (bottom : PublicKey) → Parts key message signature
+pub bottom-verifies : (key : TwoLevelKey) (message signature : List ℕ) (bottom : PublicKey) → Parts key message signature
     → in_profile (lms.key_in (key_part key signature)) ≡ Some bottom
     → Verifies bottom message (bottom_in key signature)
 bottom-verifies key message signature bottom parts read =
     subst (λ k. Verifies k message (bottom_in key signature)) (bottom-same key message signature bottom parts read) parts.signs_message
 
 -- what is found of both signatures is the verdict, where all else of it is as it should be
-pub verdict-reached : (key : HssKey) (message signature : List ℕ) (bottom : PublicKey)
+pub verdict-reached : (key : TwoLevelKey) (message signature : List ℕ) (bottom : PublicKey)
     → key_end key ≤ length signature → ots.number_at 0 signature ≡ 1
     → in_profile (lms.key_in (key_part key signature)) ≡ Some bottom
     → length signature ≡ key_end key + signature_length bottom.tree bottom.ots

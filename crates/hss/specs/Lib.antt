@@ -1,3 +1,4 @@
+pub mod Keys
 pub mod Hss
 pub mod Pairs
 pub mod Trees

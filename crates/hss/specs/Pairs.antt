@@ -6,9 +6,9 @@ use Rattle.lms_tree.specs.declared.secret.Secret.{Secret}
 use Rattle.lms_tree.specs.Kinds as kinds
 use Rattle.lms_tree.specs.Kinds.{height, leaf_count}
 use Rattle.lms_tree.specs.Lms as lms
-use Rattle.hss.specs.declared.key.HssKey.{HssKey}
+use Rattle.hss.specs.Keys.{TwoLevelKey}
 use Rattle.hss.specs.declared.secret.PairSecret.{PairSecret}
-use Rattle.hss.specs.Hss.{signature_bytes, top_in}
+use Rattle.hss.specs.Hss.{signature_bytes, key_part, top_in}
 
 -- ---- the trees
 
@@ -30,7 +30,7 @@ bottom_secret pair q =
     record { tree = pair.bottom; ots = pair.ots; id = bottom_id pair.seed q; seed = bottom_seed pair.seed q }
 
 -- the public half of a pair: that of its top tree
-abbrev pub public_of : PairSecret → HssKey
+abbrev pub public_of : PairSecret → TwoLevelKey
 public_of pair = record { top = lms.public_of (top_secret pair) }
 
 -- ---- indexes: n = q0 * 2^h1 + q1 is leaf q1 of bottom tree q0, whose key top leaf q0 signs
@@ -87,13 +87,15 @@ prepared pair =
 
 -- ---- what signs once
 
--- in each signature with an index of tree q0, top leaf q0 signs the public key of bottom tree q0, whatever the message, and
--- however often the pair was made again
+-- In the signature top leaf q signs the public key of bottom tree q, and that key stands behind it.
+pub record TopSigns (pair : PairSecret) (q : ℕ) (signature : List ℕ) : Type 0 where
+  pub top : top_in (public_of pair) signature ≡ lms.signature_of (top_secret pair) q (lms.key_bytes (lms.public_of (bottom_secret pair q)))
+  pub key : key_part (public_of pair) signature ≡ lms.key_bytes (lms.public_of (bottom_secret pair q))
+
+-- So it is in each signature with an index of tree q, whatever the message, and however often the pair was made again.
 abbrev pub TopSignsOneKey : Type 0
 TopSignsOneKey =
-    (pair : PairSecret) (n : ℕ) (message : List ℕ) → n < index_count pair
-    → top_in (public_of pair) (signature_of pair n message)
-    ≡ lms.signature_of (top_secret pair) (tree_of pair n) (lms.key_bytes (lms.public_of (bottom_secret pair (tree_of pair n))))
+    (pair : PairSecret) (n : ℕ) (message : List ℕ) → n < index_count pair → TopSigns pair (tree_of pair n) (signature_of pair n message)
 
 -- two indexes have no leaf of one bottom tree in common
 abbrev pub LeavesDiffer : Type 0

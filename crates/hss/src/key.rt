@@ -1,16 +1,32 @@
 //! Public keys of two levels, and their bytes.
 
 ghost use Rattle.std.specs.Prelude.{◌≡◌, true, IfOk};
-ghost use Rattle.hss.specs.Hss.{is_in_profile, key_bytes, key_in, key_over};
+ghost use Rattle.hss.specs.Keys.{is_in_profile};
+ghost use Rattle.hss.specs.Hss.{key_bytes, key_in, key_over};
 
 use lms_ots::OtsKind;
 use lms_ots::places::{number_at, put};
 use lms_tree::{KeyFault, PublicKey};
+use std::marker::Model;
 
-/// The public half of a two-level key (RFC 8554, section 6.1): that of its top tree.
+/// The public half of a two-level key (RFC 8554, section 6.1): that of its top tree, whose one-time signatures are of W4
+/// or W8.
 #[derive(Debug, Clone, Copy, PartialEq, Eq)]
 pub struct HssKey {
     pub top: PublicKey,
+}
+
+impl Model for HssKey {
+    ghost use Rattle.std.specs.Prelude.{◌≡◌, true};
+    ghost use Rattle.hss.specs.Keys.{TwoLevelKey, is_in_profile};
+
+    ghost Value = { TwoLevelKey };
+
+    ghost view = { λ k. record { top = k.top } };
+
+    ghost invariant = { λ k. is_in_profile k.top.ots ≡ true };
+
+    ghost inverse = { λ v. record { top = v.top } };
 }
 
 /// Why bytes are no public key of two levels: the first of these that holds.
@@ -70,7 +86,8 @@ impl HssKey {
     #[tactic(auto, unfolding(crate::specs::Hss::key_bytes))]
     pub fn write(&self) -> [u8; 60]
         ensures bytes { result ≡ key_bytes self.now }
-        ensures read_back { is_in_profile self.now.top.ots ≡ true → key_in result ≡ Ok self.now }
+        ensures read_back { key_in result ≡ Ok self.now }
+        ensures in_profile { is_in_profile self.now.top.ots ≡ true }
     {
         let mut bytes = [0; 60];
         put(&mut bytes, 0, &2u32.to_be_bytes());

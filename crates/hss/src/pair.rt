@@ -2,8 +2,9 @@
 
 ghost use Rattle.std.specs.Prelude.{◌≡◌, ◌≢◌, ◌+◌, ◌<◌, ◌≤◌, ◌↔◌, true, None, Some, IfOk, IfNone, IfSome, IsNone, IsOk, IsTrue, OnErr, OnOk, OnSome, length};
 ghost use Rattle.lms_tree.specs.Kinds.{height};
-ghost use Rattle.hss.specs.Hss.{HssVerifies, is_in_profile};
-ghost use Rattle.hss.specs.Pairs.{index_count, prepared, public_of, signature_length, signature_of, tree_of};
+ghost use Rattle.hss.specs.Keys.{is_in_profile};
+ghost use Rattle.hss.specs.Hss.{HssVerifies};
+ghost use Rattle.hss.specs.Pairs.{TopSigns, index_count, prepared, public_of, signature_length, signature_of, tree_of};
 
 use crate::bottom::{Bottom, take_leaf};
 use crate::key::HssKey;
@@ -29,7 +30,7 @@ pub struct Pair {
 impl Model for Pair {
     ghost use Rattle.std.specs.Prelude.{◌≡◌, ◌≤◌, ◌+◌, true, option_map};
     ghost use Rattle.lms_tree.specs.Kinds.{height};
-    ghost use Rattle.hss.specs.Hss.{is_in_profile};
+    ghost use Rattle.hss.specs.Keys.{is_in_profile};
     ghost use Rattle.hss.specs.Pairs.{PairState, index_count, top_secret};
     ghost use Rattle.hss.specs.Trees.{IsHeld};
 
@@ -117,6 +118,13 @@ impl Pair {
         76 + 2 * ots.signature_length() + 32 * (top.height() + bottom.height())
     }
 
+    /// The height of the bottom trees, which the public half doesn't show.
+    pub fn bottom_height(&self) -> u8
+        ensures { result ≡ height self.now.key.bottom }
+    {
+        self.secret.bottom.height() as u8
+    }
+
     /// The next index, or the number of all where none is left.
     pub fn next(&self) -> u32
         ensures value { result ≡ self.now.next }
@@ -194,6 +202,7 @@ impl Pair {
         requires long { length out.old ≡ signature_length self.now.key }
         ensures signed { out.new ≡ signature_of self.now.key leaf.index message.now }
         ensures verifies { HssVerifies (public_of self.now.key) message.now out.new }
+        ensures top { TopSigns self.now.key (tree_of self.now.key leaf.index) out.new }
     {
         match &self.hand {
             Some(hand) => hand.sign(leaf.spend(), message, out),

@@ -1,8 +1,9 @@
 //! Whether a signature of two levels is good.
 
-ghost use Rattle.std.specs.Prelude.{◌≡◌, ◌+◌, ◌↔◌, ◌≤◌, IsOk, length, OnSome};
+ghost use Rattle.std.specs.Prelude.{◌≡◌, ◌+◌, ◌↔◌, ◌≤◌, IsOk, length, OnSome, true};
 ghost use Rattle.lms_tree.specs.Lms as lms;
 ghost use Rattle.lms_tree.specs.Lms.{Verifies};
+ghost use Rattle.hss.specs.Keys.{is_in_profile};
 ghost use Rattle.hss.specs.Hss.{HssVerifies, both, in_profile, verdict_of};
 
 use crate::key::{HssKey, is_in_profile};
@@ -57,14 +58,17 @@ fn verify_both(
     }
 }
 
-/// Whether `signature` is a signature of `message` under `key` (RFC 8554, section 6.3). It takes no memory.
+/// Whether `signature` is a signature of `message` under the two-level key with this top key.
 #[tactic(auto, unfolding(crate::specs::Hss::verdict_of))]
-pub fn verify(key: &HssKey, message: &[u8], signature: &[u8]) -> Result<(), HssFault>
-    ensures decides { IsOk result ↔ HssVerifies key.now message.now signature.now }
-    ensures verdict { result ≡ verdict_of key.now message.now signature.now }
+fn verify_under(top_key: &PublicKey, message: &[u8], signature: &[u8]) -> Result<(), HssFault>
+    requires in_profile { is_in_profile top_key.now.ots ≡ true }
+    ensures decides { IsOk result
+        ↔ HssVerifies (record { top = top_key.now }) message.now signature.now }
+    ensures verdict { result
+        ≡ verdict_of (record { top = top_key.now }) message.now signature.now }
 {
     let found = signature.len();
-    let key_at = 4 + key.top.signature_length();
+    let key_at = 4 + top_key.signature_length();
     if found < key_at + 56 {
         return Err(HssFault::Length { found });
     }
@@ -80,11 +84,19 @@ pub fn verify(key: &HssKey, message: &[u8], signature: &[u8]) -> Result<(), HssF
         return Err(HssFault::Length { found });
     }
     verify_both(
-        &key.top,
+        top_key,
         key_bytes,
         top,
         &bottom,
         message,
         &signature[key_at + 56..],
     )
+}
+
+/// Whether `signature` is a signature of `message` under `key` (RFC 8554, section 6.3). It takes no memory.
+pub fn verify(key: &HssKey, message: &[u8], signature: &[u8]) -> Result<(), HssFault>
+    ensures decides { IsOk result ↔ HssVerifies key.now message.now signature.now }
+    ensures verdict { result ≡ verdict_of key.now message.now signature.now }
+{
+    verify_under(&key.top, message, signature)
 }

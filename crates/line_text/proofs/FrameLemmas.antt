@@ -155,7 +155,7 @@ tests_stand false b r h = refl
 row_tested : {L : Type 0} (row : Result (Row L) BadWord) (words : List (List ℕ)) → Tests (first_of (row_tests row words)) (row_line row words)
 row_tested (Err w) words = refl
 row_tested {L} (Ok row) words =
-    let a = field_tests row.fields words in
+    let a = field_tests (row.fields words) words in
     let f = row.whole_fault words in
     let good : Result L BadWord = Ok (row.line words) in
     let whole = tests_unless f None good refl in
@@ -288,7 +288,7 @@ mapped_row of true (Some w) whole l = refl
 
 pub row_mapped : {L M : Type 0} (of : L → M) (row : Result (Row L) BadWord) (words : List (List ℕ)) → row_line (row_of_line of row) words ≡ mapped of (row_line row words)
 row_mapped of (Err w) words = refl
-row_mapped of (Ok row) words = mapped_row of row.stands (first_of (field_tests row.fields words)) (row.whole_fault words) (row.line words)
+row_mapped of (Ok row) words = mapped_row of row.stands (first_of (field_tests (row.fields words) words)) (row.whole_fault words) (row.line words)
 
 -- a line by the row of its form is one among those of several forms
 pub row_of_line-line : {L M : Type 0} (of : L → M) (row : Result (Row L) BadWord) (words : List (List ℕ)) (l : L) → row_line row words ≡ Ok l → row_line (row_of_line of row) words ≡ Ok (of l)

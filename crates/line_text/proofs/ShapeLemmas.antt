@@ -9,7 +9,7 @@ use Rattle.line_text.specs.declared.bad_word.BadWord.{BadWord}
 use Rattle.line_text.specs.Digits.{SpellsBytes}
 use Rattle.line_text.specs.Frame.{behind, first_of, first_word, word_tests}
 use Rattle.line_text.specs.Spellings.{Reads, SpellsAs, SpellsOrDash}
-use Rattle.line_text.specs.Shapes.{◌and◌, AllInRange, Field, Fields, InRange, Spells, SpellsAll, SpellsEach, Value, Values, any_name, bytes_as, bytes_from, bytes_of, bytes_up_to, has_one_word, have_one_word, no_more, number_as, number_from, number_where, so_many, test, tests, value, values, word_for, word_or, words_for}
+use Rattle.line_text.specs.Shapes.{◌and◌, AllInRange, Field, Fields, InRange, Spells, SpellsAll, SpellsEach, Value, Values, maybe, any_name, bytes_as, bytes_from, bytes_of, bytes_up_to, has_one_word, have_one_word, no_more, number_as, number_from, number_where, so_many, test, tests_for, value, values, word_for, word_or, words_for}
 use Rattle.line_text.proofs.FieldLemmas.{no_word}
 use Rattle.line_text.proofs.FrameLemmas.{or_none}
 use Rattle.line_text.proofs.SpellingLemmas.{as-spelled, as-taken, between-spelled, between-taken, fitting-spelled, fitting-taken, hex-spelled, hex-taken, name-spelled, name-taken, number-spelled, number-taken, numbered-spelled, numbered-taken, up_to-spelled, up_to-taken}
@@ -86,7 +86,7 @@ each_spelled f (suc n) (w ∷ words) e good =
     (spelled f w p.0, each_spelled f n words (omega arith) p.1)
 
 -- Words that pass the tests spell their values.
-pub all-spelled : (fs : Fields) (words : List (List ℕ)) → length words ≡ length (tests fs) → first_of (word_tests (tests fs) words) ≡ None → SpellsAll fs words (values fs words)
+pub all-spelled : (fs : Fields) (words : List (List ℕ)) → length words ≡ length (tests_for fs words) → first_of (word_tests (tests_for fs words) words) ≡ None → SpellsAll fs words (values fs words)
 all-spelled no_more words e good = no_word words e
 all-spelled (f and fs) [] e good = absurd (omega (arith, e))
 all-spelled (f and fs) (w ∷ words) e good =
@@ -95,11 +95,14 @@ all-spelled (f and fs) (w ∷ words) e good =
 all-spelled (so_many n f) words e good =
     let long : length words ≡ n = e ∙ length-replicate n (test f) in
     (long, each_spelled f n words long good)
+all-spelled (maybe f) [] e good = refl
+all-spelled (maybe f) (w ∷ words) e good =
+    record { word = w; others = words; same = refl; is = spelled f w (or_none _ _ good).0; rest = no_word words (omega (arith, e)) }
 
 -- The words are as many as the tests, pass them, and have these values.
 pub record AllRead (fs : Fields) (words : List (List ℕ)) (vs : Values fs) : Type 0 where
-  pub many : length words ≡ length (tests fs)
-  pub good : first_of (word_tests (tests fs) words) ≡ None
+  pub many : length words ≡ length (tests_for fs words)
+  pub good : first_of (word_tests (tests_for fs words) words) ≡ None
   pub same : values fs words ≡ vs
 
 record EachRead (f : Field) (n : ℕ) (words : List (List ℕ)) (vs : List (Value f)) : Type 0 where
@@ -130,13 +133,21 @@ all-taken (f and fs) words vs h =
     let first = taken f h.word vs.0 h.is in
     let others = all-taken fs h.others vs.1 h.rest in
     record {
-      many = ap length h.same ∙ ap suc others.many;
+      many = rw h.same (ap suc others.many);
       good = rw h.same (rw first.good others.good);
       same = rw h.same (pair_is (value f h.word) vs.0 (values fs h.others) vs.1 first.same others.same);
     }
 all-taken (so_many n f) words vs h =
     let each = each_taken f n words vs h.0 h.1 in
     record { many = h.0 ∙ sym (length-replicate n (test f)); good = each.good; same = each.same }
+all-taken (maybe f) words None h = record { many = rw h refl; good = rw h refl; same = rw h refl }
+all-taken (maybe f) words (Some v) h =
+    let read = taken f h.word v h.is in
+    record {
+      many = rw h.same (ap (λ (others : List (List ℕ)). suc (length others)) h.rest);
+      good = rw h.same (rw read.good refl);
+      same = rw h.same (ap Some read.same);
+    }
 
 each_in_range : (f : Field) (words : List (List ℕ)) (vs : List (Value f)) → SpellsEach (Spells f) words vs → AllByRecursion (InRange f) vs
 each_in_range f [] [] h = tt
@@ -155,6 +166,8 @@ pub all-in_range : (fs : Fields) (words : List (List ℕ)) (vs : Values fs) → 
 all-in_range no_more words vs h = tt
 all-in_range (f and fs) words vs h = (in_range f h.word vs.0 h.is, all-in_range fs h.others vs.1 h.rest)
 all-in_range (so_many n f) words vs h = (each_long f words vs h.1 ∙ h.0, each_in_range f words vs h.1)
+all-in_range (maybe f) words None h = tt
+all-in_range (maybe f) words (Some v) h = in_range f h.word v h.is
 
 onto : (a b : List ℕ) (more rest : List (List ℕ)) → a ≡ b → more ≡ rest → a ∷ more ≡ b ∷ rest
 onto a b more rest e f = cc
@@ -172,6 +185,9 @@ all-words digits (f and fs) words vs one h =
     let p = and_parts (has_one_word f) (have_one_word fs) one in
     h.same ∙ onto h.word (word_for digits f vs.0) h.others (words_for digits fs vs.1) (one-word digits f h.word vs.0 p.0 h.is) (all-words digits fs h.others vs.1 p.1 h.rest)
 all-words digits (so_many n f) words vs one h = each_words digits f words vs one h.1
+all-words digits (maybe f) words None one h = h
+all-words digits (maybe f) words (Some v) one h =
+    h.same ∙ onto h.word (word_for digits f v) h.others [] (one-word digits f h.word v one h.is) h.rest
 
 -- ## The word of bytes
 
@@ -193,12 +209,14 @@ abbrev pub has_one_digits : Fields → Bool
 has_one_digits no_more = true
 has_one_digits (f and fs) = cond (has_one_word f) (has_one_digits fs) (have_one_word fs)
 has_one_digits (so_many n f) = has_one_word f
+has_one_digits (maybe f) = true
 
 -- the word that does
 abbrev pub digits_among : Fields → List (List ℕ) → List ℕ
 digits_among no_more words = []
 digits_among (f and fs) words = cond (has_one_word f) (digits_among fs (behind words)) (first_word words)
 digits_among (so_many n f) words = []
+digits_among (maybe f) words = first_word words
 
 own_among : (f : Field) (fs : Fields) (word : List ℕ) (words : List (List ℕ)) (v : Value f) (vs : Values fs) (b : Bool) → has_one_word f ≡ b → cond b (has_one_digits fs) (have_one_word fs) ≡ true → Spells f word v → SpellsAll fs words vs
     → (has_one_digits fs ≡ true → words ≡ words_for (digits_among fs words) fs vs) → word ∷ words ≡ words_for (cond b (digits_among fs words) word) (f and fs) (v, vs)
@@ -214,6 +232,10 @@ all-own (f and fs) words vs one h =
     let own = own_among f fs h.word h.others vs.0 vs.1 (has_one_word f) refl one h.is h.rest (λ e. all-own fs h.others vs.1 e h.rest) in
     subst (λ (ws : List (List ℕ)). ws ≡ words_for (digits_among (f and fs) ws) (f and fs) vs) (sym h.same) own
 all-own (so_many n f) words vs one h = each_words [] f words vs one h.1
+all-own (maybe f) words None one h = h
+all-own (maybe f) words (Some v) one h =
+    let own = onto h.word (word_for h.word f v) h.others [] (own-word f h.word v h.is) h.rest in
+    subst (λ (ws : List (List ℕ)). ws ≡ words_for (digits_among (maybe f) ws) (maybe f) (Some v)) (sym h.same) own
 
 -- ## Words that are made of values
 
@@ -234,6 +256,8 @@ abbrev pub AllHaveWords : List ℕ → (fs : Fields) → Values fs → Type 0
 AllHaveWords digits no_more vs = Unit {0}
 AllHaveWords digits (f and fs) vs = HasWord digits f vs.0 × AllHaveWords digits fs vs.1
 AllHaveWords digits (so_many n f) vs = AllByRecursion (HasWord digits f) vs
+AllHaveWords digits (maybe f) None = Unit {0}
+AllHaveWords digits (maybe f) (Some v) = HasWord digits f v
 
 made : (digits : List ℕ) (f : Field) (v : Value f) → InRange f v → HasWord digits f v → Spells f (word_for digits f v) v
 made digits (number_from low high) v range has = record { digits = refl; low = range.0; high = range.1; held = has }
@@ -257,3 +281,5 @@ all-made digits no_more vs range has = refl
 all-made digits (f and fs) vs range has =
     record { word = word_for digits f vs.0; others = words_for digits fs vs.1; same = refl; is = made digits f vs.0 range.0 has.0; rest = all-made digits fs vs.1 range.1 has.1 }
 all-made digits (so_many n f) vs range has = (length-map vs (word_for digits f) ∙ range.0, each_made digits f vs range.1 has)
+all-made digits (maybe f) None range has = refl
+all-made digits (maybe f) (Some v) range has = record { word = word_for digits f v; others = []; same = refl; is = made digits f v range has; rest = refl }

@@ -4,8 +4,8 @@ use Rattle.std.proofs.lemmas.Bool.{and_parts, eqb-true}
 use Rattle.std.proofs.lemmas.Slice.Eq.{bytes_eq-Decides}
 use Rattle.line_text.specs.declared.bad_word.BadWord.TheVariants as bad
 use Rattle.line_text.specs.Frame.{behind, first_word, header_row, is_header, known_row, row_line, second_word, whole_line, word_among}
-use Rattle.line_text.specs.Shapes.{Values, have_one_word, line_from, made_of, tests, values, words_for}
-use Rattle.line_text.specs.Tables.{Header, InRange, IsHeader, IsRow, IsSound, Line, Parts, PartsInRange, PartsStand, Spells, SpellsParts, Stands, Table, row_for, row_of, start_row, words_of, words_of_parts}
+use Rattle.line_text.specs.Shapes.{have_one_word, line_from, made_of, tests_for, values, words_for}
+use Rattle.line_text.specs.Tables.{Header, InRange, IsHeader, IsRow, IsSound, IsWhole, Line, Parts, PartsInRange, PartsStand, PartsWhole, Spells, SpellsParts, Stands, Table, row_for, row_of, start_row, words_of, words_of_parts}
 use Rattle.line_text.proofs.FieldLemmas.{two_words, whole_line-good, whole_line-ok}
 use Rattle.line_text.proofs.FrameLemmas.{stood, word_among-text}
 use Rattle.line_text.proofs.ShapeLemmas.{AllHaveWords, all-in_range, all-made, all-own, all-spelled, all-taken, all-words, digits_among, has_one_digits}
@@ -34,8 +34,8 @@ module _ {F W L : Type 0} (t : Table F W L) (sound : IsSound t) where
   known_spelled s (Some word) first args l start is e =
       let fs = t.fields s word in
       let fault = (row_of t s word).whole_fault in
-      let h = stood (t.may_stand s word) (whole_line (tests fs) fault (line_from fs (t.line s word)) args) bad.Order l e in
-      let p = whole_line-ok (tests fs) fault (line_from fs (t.line s word)) args l h.1 in
+      let h = stood (t.may_stand s word) (whole_line (tests_for fs args) fault (line_from fs (t.line s word)) args) bad.Order l e in
+      let p = whole_line-ok (tests_for fs args) fault (line_from fs (t.line s word)) args l h.1 in
       let first_is : first ≡ t.text word = word_among-text t.text t.words first word is in
       let row : IsRow t s word (values fs args) (first ∷ args) (line_from fs (t.line s word) args) = record {
         below = start;
@@ -51,7 +51,7 @@ module _ {F W L : Type 0} (t : Table F W L) (sound : IsSound t) where
 
   start_spelled : (s : F) (b : Bool) (first : List ℕ) (args : List (List ℕ)) (l : L) → t.is_start s ≡ true → is_header t.form (first ∷ args) ≡ b → row_line (cond b (Ok (header_row t.header)) (Err (t.no_header (first ∷ args)))) args ≡ Ok l → Spells t s (first ∷ args) l
   start_spelled s true first args l start is e =
-      let p = whole_line-ok (header_row t.header).fields (header_row t.header).whole_fault (header_row t.header).line args l e in
+      let p = whole_line-ok ((header_row t.header).fields args) (header_row t.header).whole_fault (header_row t.header).line args l e in
       let made : IsHeader t s (first ∷ args) t.header = record { stands = start; words = header_words t.form first args is; made = refl } in
       subst (Spells t s (first ∷ args)) p.same (subst (SpellsParts t s (first ∷ args) t.header) (sym (sound.headed s)) made)
   start_spelled s false first args l start is e = cc
@@ -73,7 +73,7 @@ module _ {F W L : Type 0} (t : Table F W L) (sound : IsSound t) where
       let fs = t.fields s word in
       let r = all-taken fs h.args vs h.spells in
       let whole = ap (t.whole_fault s word) r.same ∙ h.whole in
-      let good = whole_line-good (tests fs) (row_of t s word).whole_fault (line_from fs (t.line s word)) h.args r.many r.good whole in
+      let good = whole_line-good (tests_for fs h.args) (row_of t s word).whole_fault (line_from fs (t.line s word)) h.args r.many r.good whole in
       rw h.words (rw (h.below, sound.named word, h.stands) (good ∙ ap (λ us. Ok (made_of fs (t.line s word) us)) r.same ∙ ap Ok h.made))
 
   -- What is a line is taken, as that line.
@@ -96,6 +96,13 @@ module _ {F W L : Type 0} (t : Table F W L) (s : F) (ws : List (List ℕ)) (l : 
 
   pub table-in_range : Spells t s ws l → InRange t s l
   table-in_range h = parts_range (t.parts s l) h
+
+  parts_whole : (p : Parts W (t.fields s)) → SpellsParts t s ws l p → PartsWhole t s p
+  parts_whole Header h = tt
+  parts_whole (Line word vs) h = h.whole
+
+  pub table-whole : Spells t s ws l → IsWhole t s l
+  table-whole h = parts_whole (t.parts s l) h
 
   parts_words : ((word : W) → have_one_word (t.fields s word) ≡ true) → (digits : List ℕ) (p : Parts W (t.fields s)) → SpellsParts t s ws l p → ws ≡ words_of_parts t s digits p
   parts_words one digits Header h = h.words
@@ -124,11 +131,11 @@ module _ {F W L : Type 0} (t : Table F W L) (s : F) (digits : List ℕ) (l : L) 
   PartsHaveWords Header = Unit {0}
   PartsHaveWords (Line word vs) = AllHaveWords digits (t.fields s word) vs
 
-  parts_made : ((word : W) → t.may_stand s word ≡ true → t.is_start s ≡ false) → ((word : W) (vs : Values (t.fields s word)) → t.whole_fault s word vs ≡ None) → (p : Parts W (t.fields s)) → PartsMake p → PartsStand t s p → PartsInRange (t.fields s) p → PartsHaveWords p → SpellsParts t s (words_of_parts t s digits p) l p
-  parts_made below whole Header made stands range has = record { stands = stands; words = refl; made = made }
-  parts_made below whole (Line word vs) made stands range has =
-      record { below = below word stands; stands = stands; args = words_for digits (t.fields s word) vs; words = refl; spells = all-made digits (t.fields s word) vs range has; whole = whole word vs; made = made }
+  parts_made : ((word : W) → t.may_stand s word ≡ true → t.is_start s ≡ false) → (p : Parts W (t.fields s)) → PartsMake p → PartsStand t s p → PartsInRange (t.fields s) p → PartsWhole t s p → PartsHaveWords p → SpellsParts t s (words_of_parts t s digits p) l p
+  parts_made below Header made stands range whole has = record { stands = stands; words = refl; made = made }
+  parts_made below (Line word vs) made stands range whole has =
+      record { below = below word stands; stands = stands; args = words_for digits (t.fields s word) vs; words = refl; spells = all-made digits (t.fields s word) vs range has; whole = whole; made = made }
 
-  -- The words of a line that may stand here, with its values in range, spell it, where nothing is refused as a whole.
-  pub table-made : ((word : W) → t.may_stand s word ≡ true → t.is_start s ≡ false) → ((word : W) (vs : Values (t.fields s word)) → t.whole_fault s word vs ≡ None) → PartsMake (t.parts s l) → Stands t s l → InRange t s l → PartsHaveWords (t.parts s l) → Spells t s (words_of t s digits l) l
-  table-made below whole made stands range has = parts_made below whole (t.parts s l) made stands range has
+  -- The words of a line that may stand here, with its values in range, spell it, where nothing refuses them as a whole.
+  pub table-made : ((word : W) → t.may_stand s word ≡ true → t.is_start s ≡ false) → PartsMake (t.parts s l) → Stands t s l → InRange t s l → IsWhole t s l → PartsHaveWords (t.parts s l) → Spells t s (words_of t s digits l) l
+  table-made below made stands range whole has = parts_made below (t.parts s l) made stands range whole has

@@ -63,10 +63,10 @@ word_tests (field ∷ fields) words = field (first_word words) ∷ word_tests fi
 -- ## What a form says of a line
 
 -- What a form says of the lines with one first word: whether one may stand here, what the words behind it
--- must be, what refuses words as a whole that are good one by one, and what line they are.
+-- must be, by how many there are, what refuses words as a whole that are good one by one, and what line they are.
 pub record Row (L : Type 0) : Type 0 where
   pub stands : Bool
-  pub fields : List Test
+  pub fields : List (List ℕ) → List Test
   pub whole_fault : List (List ℕ) → Option BadWord
   pub line : List (List ℕ) → L
 
@@ -79,7 +79,7 @@ field_tests fields words = bad_where bad.Count (not (length words == length fiel
 abbrev pub row_tests : {L : Type 0} → Result (Row L) BadWord → List (List ℕ) → List (Option BadWord)
 row_tests (Err word) words = Some word ∷ []
 row_tests (Ok row) words =
-    bad_where bad.Order (not row.stands) ∷ (field_tests row.fields words ++ row.whole_fault words ∷ [])
+    bad_where bad.Order (not row.stands) ∷ (field_tests (row.fields words) words ++ row.whole_fault words ∷ [])
 
 -- the line word of a word, or that it is none
 abbrev pub word_or_bad : {W : Type 0} → Option W → Result W BadWord
@@ -126,7 +126,7 @@ any_word word = None
 abbrev pub header_row : {L : Type 0} → L → Row L
 header_row line = record {
   stands = true;
-  fields = any_word ∷ any_word ∷ [];
+  fields = λ words. any_word ∷ any_word ∷ [];
   whole_fault = λ words. None;
   line = λ words. line;
 }
@@ -160,7 +160,7 @@ whole_line fields whole_fault line words =
 
 abbrev pub row_line : {L : Type 0} → Result (Row L) BadWord → List (List ℕ) → Result L BadWord
 row_line (Err word) words = Err word
-row_line (Ok row) words = if row.stands then whole_line row.fields row.whole_fault row.line words else Err bad.Order
+row_line (Ok row) words = if row.stands then whole_line (row.fields words) row.whole_fault row.line words else Err bad.Order
 
 -- What the next line is, or its first bad word.
 unfoldable pub judge : {L : Type 0} → Next L → List ℕ → Result L BadWord

@@ -121,6 +121,8 @@ pub data Fields : Type 1 where
   no_more : Fields
   ◌and◌ : Field → Fields → Fields
   so_many : ℕ → Field → Fields
+  -- one word more, or none
+  maybe : Field → Fields
 
 infixr 30 ◌and◌
 -- the values of the words
@@ -128,28 +130,42 @@ abbrev pub Values : Fields → Type 0
 Values no_more = Unit {0}
 Values (f and fs) = Value f × Values fs
 Values (so_many n f) = List (Value f)
+Values (maybe f) = Option (Value f)
 
--- the tests of the words
+-- the tests of the words, by how many there are
+abbrev pub tests_for : Fields → List (List ℕ) → List Test
+tests_for no_more words = []
+tests_for (f and fs) words = test f ∷ tests_for fs (behind words)
+tests_for (so_many n f) words = replicate n (test f)
+tests_for (maybe f) [] = []
+tests_for (maybe f) (word ∷ words) = test f ∷ []
+
+-- the tests of the words that there must be
 abbrev pub tests : Fields → List Test
-tests no_more = []
-tests (f and fs) = test f ∷ tests fs
-tests (so_many n f) = replicate n (test f)
+tests fs = tests_for fs []
+
+abbrev pub value_or_none : (f : Field) → List (List ℕ) → Option (Value f)
+value_or_none f [] = None
+value_or_none f (word ∷ words) = Some (value f word)
 
 abbrev pub values : (fs : Fields) → List (List ℕ) → Values fs
 values no_more words = tt
 values (f and fs) words = (value f (first_word words), values fs (behind words))
 values (so_many n f) words = map (value f) words
+values (maybe f) words = value_or_none f words
 
 -- what makes a value of the values
 abbrev pub Makes : Fields → Type 0 → Type 0
 Makes no_more L = L
 Makes (f and fs) L = Value f → Makes fs L
 Makes (so_many n f) L = List (Value f) → L
+Makes (maybe f) L = Option (Value f) → L
 
 abbrev pub made_of : {L : Type 0} (fs : Fields) → Makes fs L → Values fs → L
 made_of no_more make vs = make
 made_of (f and fs) make vs = made_of fs (make vs.0) vs.1
 made_of (so_many n f) make vs = make vs
+made_of (maybe f) make vs = make vs
 
 -- the line that words are
 abbrev pub line_from : {L : Type 0} (fs : Fields) → Makes fs L → List (List ℕ) → L
@@ -174,21 +190,28 @@ abbrev pub SpellsAll : (fs : Fields) → List (List ℕ) → Values fs → Type 
 SpellsAll no_more words vs = words ≡ []
 SpellsAll (f and fs) words vs = Begins (λ word. Spells f word vs.0) (λ others. SpellsAll fs others vs.1) words
 SpellsAll (so_many n f) words vs = (length words ≡ n) × SpellsEach (Spells f) words vs
+SpellsAll (maybe f) words None = words ≡ []
+SpellsAll (maybe f) words (Some v) = Begins (λ word. Spells f word v) (λ others. others ≡ []) words
 
 -- Each value is in range, and there are as many as there may be.
 abbrev pub AllInRange : (fs : Fields) → Values fs → Type 0
 AllInRange no_more vs = Unit {0}
 AllInRange (f and fs) vs = InRange f vs.0 × AllInRange fs vs.1
 AllInRange (so_many n f) vs = (length vs ≡ n) × AllByRecursion (InRange f) vs
+AllInRange (maybe f) None = Unit {0}
+AllInRange (maybe f) (Some v) = InRange f v
 
 -- the words of the values, where these digits spell bytes
 abbrev pub words_for : List ℕ → (fs : Fields) → Values fs → List (List ℕ)
 words_for digits no_more vs = []
 words_for digits (f and fs) vs = word_for digits f vs.0 ∷ words_for digits fs vs.1
 words_for digits (so_many n f) vs = map (word_for digits f) vs
+words_for digits (maybe f) None = []
+words_for digits (maybe f) (Some v) = word_for digits f v ∷ []
 
 -- whether values have their words alone
 abbrev pub have_one_word : Fields → Bool
 have_one_word no_more = true
 have_one_word (f and fs) = has_one_word f && have_one_word fs
 have_one_word (so_many n f) = has_one_word f
+have_one_word (maybe f) = has_one_word f

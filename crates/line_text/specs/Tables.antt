@@ -3,7 +3,7 @@
 use Rattle.std.specs.Prelude.{◌≡◌, ℕ, Bool, true, false, if◌then◌else◌, List, [], ◌∷◌, Option, Some, None, Result, Ok, Err, codes}
 use Rattle.line_text.specs.declared.bad_word.BadWord.{BadWord}
 use Rattle.line_text.specs.Frame.{Row, first_word, header_row, is_header, known_row, word_among}
-use Rattle.line_text.specs.Shapes.{AllInRange, Fields, Makes, SpellsAll, Values, line_from, made_of, tests, values, words_for}
+use Rattle.line_text.specs.Shapes.{AllInRange, Fields, Makes, SpellsAll, Values, line_from, made_of, tests_for, values, words_for}
 
 -- What a line is made of: it is the header, or has a line word and the values of its fields.
 pub data Parts (W : Type 0) (fields : W → Fields) : Type 0 where
@@ -32,7 +32,7 @@ pub record Table (F W L : Type 0) : Type 1 where
 abbrev pub row_of : {F W L : Type 0} → Table F W L → F → W → Row L
 row_of t s word = record {
   stands = t.may_stand s word;
-  fields = tests (t.fields s word);
+  fields = tests_for (t.fields s word);
   whole_fault = λ ws. t.whole_fault s word (values (t.fields s word) ws);
   line = line_from (t.fields s word) (t.line s word);
 }
@@ -93,6 +93,14 @@ PartsInRange fields (Line word vs) = AllInRange (fields word) vs
 -- Its numbers, bytes and names are in range.
 abbrev pub InRange : {F W L : Type 0} → Table F W L → F → L → Type 0
 InRange t s l = PartsInRange (t.fields s) (t.parts s l)
+
+abbrev pub PartsWhole : {F W L : Type 0} (t : Table F W L) (s : F) → Parts W (t.fields s) → Type 0
+PartsWhole t s Header = Unit {0}
+PartsWhole t s (Line word vs) = t.whole_fault s word vs ≡ None
+
+-- Nothing refuses its values as a whole.
+abbrev pub IsWhole : {F W L : Type 0} → Table F W L → F → L → Type 0
+IsWhole t s l = PartsWhole t s (t.parts s l)
 
 abbrev pub words_of_parts : {F W L : Type 0} (t : Table F W L) (s : F) → List ℕ → Parts W (t.fields s) → List (List ℕ)
 words_of_parts t s digits Header = codes "fireflies" ∷ codes "1" ∷ t.form ∷ []

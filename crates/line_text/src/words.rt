@@ -177,6 +177,16 @@ impl<'a> Words<'a> {
         number_within(self.take_number(), low, high)
     }
 
+    /// How many bytes the next word has: 0 where none is left.
+    pub fn next_length(&self) -> usize
+        ensures { result ≡ length (first_word self.now) }
+    {
+        match self.left {
+            Some(text) => first_part(text).0.len(),
+            None => 0,
+        }
+    }
+
     /// Takes a number that 32 bits hold.
     pub fn number_32(&mut self) -> Result<u32, BadWord>
         ensures refused { number_32 (first_word self.old) ≡ refusal result }

@@ -1,32 +1,19 @@
 -- How many bytes records have.
-use Rattle.std.proofs.Common.{◌≡◌, ℕ, ◌+◌, Bool, true, false, cond, List, ◌∷◌, ◌++◌, length, refl, arith}
+use Rattle.std.proofs.Common.{◌≡◌, ℕ, ◌+◌, Bool, true, false, cond, ◌∷◌, ◌++◌, length, refl, arith}
 use Rattle.std.specs.Int.{w16, w32, w64, to_be_bytes}
 use Rattle.std.proofs.lemmas.List.{length-append}
 use Rattle.ff_ids.specs.Masks.{is_wide}
 use Rattle.ff_ids.specs.declared.NoteBody.{NoteBody}
 use Rattle.ff_ids.specs.declared.AccBody.{AccBody}
-use Rattle.lms_tree.specs.declared.key.PublicKey.{PublicKey}
-use Rattle.lms_tree.specs.Lms as lms
-use Rattle.records.specs.declared.keys.Key.{Key}
-use Rattle.records.specs.declared.keys.Key.TheVariants as keys
-use Rattle.records.specs.Keys.{HasParts, IsKey, key_bytes}
+use Rattle.records.specs.Keys.{key_length}
+use Rattle.records.proofs.KeyParts.{key-length}
 use Rattle.records.specs.declared.CertBody.{CertBody}
 use Rattle.records.specs.declared.Record.{Record}
 use Rattle.records.specs.Spelling.{IsCertificate, certificate_bytes, note_fields, note_bytes, accusation_bytes, body_bytes, record_bytes}
 
-tail_long : (id root : List ℕ) → length id ≡ 16 → length root ≡ 32 → length (id ++ root) ≡ 48
-tail_long id root a b = omega (arith, length-append id root)
-
-lms_long : (key : PublicKey) → HasParts key → length (lms.key_bytes key) ≡ 56
-unfolding lms.key_bytes
-lms_long key h = omega (arith, tail_long key.id key.root h.id_long h.root_long)
-
-key_long : (key : Key) → IsKey key → length (key_bytes key) ≡ 56
-key_long (keys.Lms key) h = lms_long key h
-
-pub certificate_long : (c : CertBody) → IsCertificate c → length (certificate_bytes c) ≡ 61
+pub certificate_long : (c : CertBody) → IsCertificate c → length (certificate_bytes c) ≡ 5 + key_length c.key
 unfolding certificate_bytes
-certificate_long c h = omega (arith, key_long c.key h.key)
+certificate_long c h = omega (arith, key-length c.key h.key)
 
 pub note_long : (n : NoteBody) → length (note_bytes n) ≡ cond (is_wide n.mask.0) 19 15
 unfolding note_bytes

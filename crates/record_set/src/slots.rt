@@ -5,7 +5,7 @@ ghost use Rattle.std.specs.Prelude.{◌≡◌, ℕ, ◌+◌, ◌*◌, ◌<◌, �
 ghost use Rattle.std.specs.Option.{option_copied};
 ghost use Rattle.ff_ids.specs.declared.TheConstants.{MAX_RINGS, MEMBERS, PAGE_MEMBERS};
 ghost use Rattle.ff_ids.specs.Masks.{bits_where};
-ghost use Rattle.records.specs.Spelling.{IsBody, HasLength, body_bytes, note_bytes, record_bytes};
+ghost use Rattle.records.specs.Spelling.{IsBody, IsCertificate, HasLength, body_bytes, certificate_bytes, note_bytes, record_bytes};
 ghost use Rattle.record_set.specs.Held.{key_of};
 ghost use Rattle.record_set.specs.Pages.{note_in, entry_with};
 ghost use Rattle.record_set.specs.Slots.{slot_of, member_of, HasSlot, entry_in, no_entry, ready_entries};
@@ -13,7 +13,7 @@ ghost use Rattle.record_set.specs.Slots.{slot_of, member_of, HasSlot, entry_in, 
 use ff_ids::{
     Bits, MAX_RINGS, MEMBERS, Mask, MemberId, NoteBody, RecordKey, Summary, SummaryEntry, is_wide,
 };
-use records::{Body, Checked, Record};
+use records::{Body, CertBody, Checked, Key, Record};
 use std::alloc::{AllocError, Global};
 
 /// How many slots a member has: one for each ring, and two.
@@ -74,14 +74,27 @@ fn note_length(note: &NoteBody) -> usize
     if is_wide(note.mask.0) { 19 } else { 15 }
 }
 
+/// How many bytes the certificate's spelling has: its key has 56 of them, or where it is of two levels 60.
+#[tactic(auto, using(crate::proofs::LengthLemmas::certificate_long))]
+fn certificate_length(certificate: &CertBody) -> usize
+    requires { IsCertificate certificate.now }
+    ensures value { result ≡ length (certificate_bytes certificate.now) }
+    ensures few { result ≤ 65 }
+{
+    match certificate.key {
+        Key::Lms(_) => 61,
+        Key::Hss(_) => 65,
+    }
+}
+
 /// How many bytes the body's spelling has.
 fn body_length(body: &Body) -> usize
     requires { IsBody body.now }
     ensures value { result ≡ length (body_bytes body.now) }
-    ensures few { result ≤ 61 }
+    ensures few { result ≤ 65 }
 {
     match body {
-        Body::Certificate(_) => 61,
+        Body::Certificate(certificate) => certificate_length(certificate),
         Body::Note(note) => note_length(note),
         Body::Accusation(_) => 14,
     }

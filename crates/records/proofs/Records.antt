@@ -1,5 +1,5 @@
 -- The two laws of the grammar: what is read is spelled so, and what is spelled so is read.
-use Rattle.std.proofs.Common.{◌≡◌, ℕ, ◌^◌, ◌<◌, ◌≤◌, ◌⊎◌, Bool, true, false, cond, eqb, List, [], ◌∷◌, ◌++◌, length, take, Option, Some, Result, Ok, Err, refl, sym, ap, subst, ◌∙◌, arith, inl, inr, lit<}
+use Rattle.std.proofs.Common.{◌≡◌, ℕ, ◌^◌, ◌<◌, ◌≤◌, ◌⊎◌, Bool, true, false, cond, eqb, List, [], ◌∷◌, ◌++◌, length, take, Option, Some, None, Result, Ok, Err, refl, sym, ap, subst, ◌∙◌, arith, inl, inr, lit<}
 use Rattle.std.specs.Int.{Width, w16, w32, w64, to_be_bytes}
 use Rattle.std.proofs.lemmas.Bool.{cases_lt, eqb-true, le-leb, lt-leb}
 use Rattle.std.proofs.lemmas.Bool.Decides.{nat_tests}
@@ -17,16 +17,18 @@ use Rattle.lms_tree.specs.declared.kind.TreeKind.TheVariants.{H5, H10, H15}
 use Rattle.lms_tree.specs.declared.key.PublicKey.{PublicKey}
 use Rattle.lms_tree.specs.Kinds.{type_number}
 use Rattle.lms_tree.specs.Lms.{tree_of, key_bytes as lms_bytes}
+use Rattle.hss.specs.Keys.{TwoLevelKey, is_in_profile}
+use Rattle.hss.specs.Hss.{key_bytes as hss_bytes}
 use Rattle.records.specs.declared.CertBody.{CertBody}
 use Rattle.records.specs.declared.Body.{Body}
 use Rattle.records.specs.declared.Body.TheVariants.{Certificate, Note, Accusation}
 use Rattle.records.specs.declared.Record.{Record}
 use Rattle.records.specs.declared.keys.Key.{Key}
 use Rattle.records.specs.declared.keys.Key.TheVariants as keys
-use Rattle.records.specs.Keys.{HasParts, key_bytes}
+use Rattle.records.specs.Keys.{HasParts, IsHssKey, IsKey, key_bytes}
 use Rattle.records.specs.declared.fault.FormFault.{FormFault}
-use Rattle.records.specs.Spelling.{certificate_bytes, note_fields, note_bytes, accusation_bytes, body_bytes, record_bytes, IsCertificate, IsNote, IsAccusation, IsBody, HasLength, IsRecord}
-use Rattle.records.specs.Grammar.{◌>>=◌, number_at, byte_at, bytes_at, any_number, member_number, nonzero, signature_length, kind_number, wide_mask, key_at, certificate_at, note_by, note_at, wide_note_at, accusation_at, body_of_kind, body_at, signature_at, record_at, GivesRecord, IsGiven}
+use Rattle.records.specs.Spelling.{certificate_kind, certificate_bytes, note_fields, note_bytes, accusation_bytes, body_bytes, record_bytes, IsCertificate, IsNote, IsAccusation, IsBody, HasLength, IsRecord}
+use Rattle.records.specs.Grammar.{◌>>=◌, number_at, byte_at, bytes_at, any_number, member_number, nonzero, signature_length, kind_number, wide_mask, two_levels, kept_in_profile, profile_kind, key_by, key_at, top_key_at, hss_key_at, certificate_by, certificate_at, hss_certificate_at, note_by, note_at, wide_note_at, accusation_at, body_of_kind, body_at, signature_at, record_at, GivesRecord, IsGiven}
 use Rattle.records.proofs.Fields.{IsBytes, bind_ok, ok_is, Takes, Takes-then, bytes_take, byte_takes, byte_again, number_takes, number_again, bytes_again, then_again, map_again, Again, IsRule, IsWide, wide16, wide32, wide64, any_rule, within_rule, nonzero_rule}
 
 chosen : {A : Type 0} (b : Bool) (x y z : A) → cond b x y ≡ z → ((b ≡ true) × (x ≡ z)) ⊎ ((b ≡ false) × (y ≡ z))
@@ -73,6 +75,30 @@ tree_rule = record { back = λ n x lt e. (tree_back n x e, tt); again = λ x goo
 
 kind_rule : IsRule (2 ^ 32) ots.kind_of ots.type_number (λ _. Unit {0})
 kind_rule = record { back = λ n x lt e. (ots_back n x e, tt); again = λ x good. ots_again x }
+
+-- what is kept of a kind in the profile is the kind
+profile_back : (kind : Option OtsKind) (x : OtsKind) → kept_in_profile kind ≡ Some x → (kind ≡ Some x) × (is_in_profile x ≡ true)
+profile_back (Some kind) x e =
+    elim (chosen (is_in_profile kind) (Some kind) None (Some x) e) [
+      | inl p ↦ (p.1, ap is_in_profile (sym (some_is kind x p.1)) ∙ p.0)
+      | inr p ↦ absurd cc
+    ]
+profile_back None x e = absurd cc
+
+profile_again : (x : OtsKind) → is_in_profile x ≡ true → (profile_kind (ots.type_number x) ≡ Some x) × (ots.type_number x < 2 ^ 32)
+profile_again W1 e = absurd cc
+profile_again W2 e = absurd cc
+profile_again W4 e = (refl, lit< tt)
+profile_again W8 e = (refl, lit< tt)
+
+abbrev IsInProfile : OtsKind → Type 0
+IsInProfile kind = is_in_profile kind ≡ true
+
+profile_rule : IsRule (2 ^ 32) profile_kind ots.type_number IsInProfile
+profile_rule = record {
+  back = λ n x lt e. let kept = profile_back (ots.kind_of n) x e in (ots_back n x kept.0, kept.1);
+  again = λ x good. profile_again x good;
+}
 
 -- ---- notes
 
@@ -167,75 +193,132 @@ accusation_again a good =
 
 -- ---- keys and certificates
 
-key_takes : (r : Reading) (k : PublicKey) (s : Reading) → IsBytes r.left → key_at r ≡ Ok (k, s) → Takes r (lms_bytes k) s × HasParts k
-unfolding key_at lms_bytes
-key_takes r x s fits e =
-    let a = bind_ok (number_at w32 tree_of r) (λ t. number_at w32 ots.kind_of t.1 >>= λ k. bytes_at 16 k.1 >>= λ i. bytes_at 32 i.1 >>= λ o. Ok (record { tree = t.0; ots = k.0; id = i.0; root = o.0 }, o.1)) (x, s) e in
-    let b = bind_ok (number_at w32 ots.kind_of a.0.1) (λ k. bytes_at 16 k.1 >>= λ i. bytes_at 32 i.1 >>= λ o. Ok (record { tree = a.0.0; ots = k.0; id = i.0; root = o.0 }, o.1)) (x, s) a.2 in
+key_by_takes : (rule : ℕ → Option OtsKind) (Good : OtsKind → Type 0) → IsRule (2 ^ 32) rule ots.type_number Good
+    → (r : Reading) (k : PublicKey) (s : Reading) → IsBytes r.left → key_by rule r ≡ Ok (k, s) → Takes r (lms_bytes k) s × HasParts k × Good k.ots
+unfolding lms_bytes
+key_by_takes rule Good ruled r x s fits e =
+    let a = bind_ok (number_at w32 tree_of r) (λ t. number_at w32 rule t.1 >>= λ k. bytes_at 16 k.1 >>= λ i. bytes_at 32 i.1 >>= λ o. Ok (record { tree = t.0; ots = k.0; id = i.0; root = o.0 }, o.1)) (x, s) e in
+    let b = bind_ok (number_at w32 rule a.0.1) (λ k. bytes_at 16 k.1 >>= λ i. bytes_at 32 i.1 >>= λ o. Ok (record { tree = a.0.0; ots = k.0; id = i.0; root = o.0 }, o.1)) (x, s) a.2 in
     let c = bind_ok (bytes_at 16 b.0.1) (λ i. bytes_at 32 i.1 >>= λ o. Ok (record { tree = a.0.0; ots = b.0.0; id = i.0; root = o.0 }, o.1)) (x, s) b.2 in
     let d = bind_ok (bytes_at 32 c.0.1) (λ o. Ok (record { tree = a.0.0; ots = b.0.0; id = c.0.0; root = o.0 }, o.1)) (x, s) c.2 in
     let t0 = number_takes w32 (2 ^ 32) tree_of type_number _ r a.0.0 a.0.1 wide32 tree_rule fits a.1 in
-    let t1 = number_takes w32 (2 ^ 32) ots.kind_of ots.type_number _ a.0.1 b.0.0 b.0.1 wide32 kind_rule t0.0.fits b.1 in
+    let t1 = number_takes w32 (2 ^ 32) rule ots.type_number Good a.0.1 b.0.0 b.0.1 wide32 ruled t0.0.fits b.1 in
     let t2 = bytes_take 16 b.0.1 c.0.0 c.0.1 t1.0.fits c.1 in
     let t3 = bytes_take 32 c.0.1 d.0.0 d.0.1 t2.0.fits d.1 in
     let made : PublicKey × Reading = (record { tree = a.0.0; ots = b.0.0; id = c.0.0; root = d.0.0 }, d.0.1) in
-    subst (λ (y : PublicKey × Reading). Takes r (lms_bytes y.0) y.1 × HasParts y.0) (ok_is made (x, s) d.2)
-    (Takes-then _ _ _ _ _ (Takes-then _ _ _ _ _ (Takes-then _ _ _ _ _ t0.0 t1.0) t2.0) t3.0, record { id_long = t2.1; root_long = t3.1 })
+    subst (λ (y : PublicKey × Reading). Takes r (lms_bytes y.0) y.1 × HasParts y.0 × Good y.0.ots) (ok_is made (x, s) d.2)
+    (Takes-then _ _ _ _ _ (Takes-then _ _ _ _ _ (Takes-then _ _ _ _ _ t0.0 t1.0) t2.0) t3.0, record { id_long = t2.1; root_long = t3.1 }, t1.1)
 
-key_again : (k : PublicKey) → HasParts k → Again key_at k (lms_bytes k)
-unfolding key_at lms_bytes
-key_again k good =
-    let whole : Again key_at k (to_be_bytes w32 (type_number k.tree) ++ (to_be_bytes w32 (ots.type_number k.ots) ++ (k.id ++ k.root))) =
-    then_again (number_at w32 tree_of) (λ t r. number_at w32 ots.kind_of r >>= λ o. bytes_at 16 o.1 >>= λ i. bytes_at 32 i.1 >>= λ b. Ok (record { tree = t; ots = o.0; id = i.0; root = b.0 }, b.1)) k.tree k (to_be_bytes w32 (type_number k.tree)) (to_be_bytes w32 (ots.type_number k.ots) ++ (k.id ++ k.root))
+key_by_again : (rule : ℕ → Option OtsKind) (Good : OtsKind → Type 0) → IsRule (2 ^ 32) rule ots.type_number Good
+    → (k : PublicKey) → HasParts k → Good k.ots → Again (key_by rule) k (lms_bytes k)
+unfolding lms_bytes
+key_by_again rule Good ruled k good kind =
+    let whole : Again (key_by rule) k (to_be_bytes w32 (type_number k.tree) ++ (to_be_bytes w32 (ots.type_number k.ots) ++ (k.id ++ k.root))) =
+    then_again (number_at w32 tree_of) (λ t r. number_at w32 rule r >>= λ o. bytes_at 16 o.1 >>= λ i. bytes_at 32 i.1 >>= λ b. Ok (record { tree = t; ots = o.0; id = i.0; root = b.0 }, b.1)) k.tree k (to_be_bytes w32 (type_number k.tree)) (to_be_bytes w32 (ots.type_number k.ots) ++ (k.id ++ k.root))
     (number_again w32 (2 ^ 32) tree_of type_number _ k.tree wide32 tree_rule tt)
-    (then_again (number_at w32 ots.kind_of) (λ o r. bytes_at 16 r >>= λ i. bytes_at 32 i.1 >>= λ b. Ok (record { tree = k.tree; ots = o; id = i.0; root = b.0 }, b.1)) k.ots k (to_be_bytes w32 (ots.type_number k.ots)) (k.id ++ k.root)
-    (number_again w32 (2 ^ 32) ots.kind_of ots.type_number _ k.ots wide32 kind_rule tt)
+    (then_again (number_at w32 rule) (λ o r. bytes_at 16 r >>= λ i. bytes_at 32 i.1 >>= λ b. Ok (record { tree = k.tree; ots = o; id = i.0; root = b.0 }, b.1)) k.ots k (to_be_bytes w32 (ots.type_number k.ots)) (k.id ++ k.root)
+    (number_again w32 (2 ^ 32) rule ots.type_number Good k.ots wide32 ruled kind)
     (then_again (bytes_at 16) (λ i r. bytes_at 32 r >>= λ b. Ok (record { tree = k.tree; ots = k.ots; id = i; root = b.0 }, b.1)) k.id k k.id k.root
     (bytes_again k.id 16 good.id_long)
     (map_again (bytes_at 32) (λ b. record { tree = k.tree; ots = k.ots; id = k.id; root = b }) k.root k.root (bytes_again k.root 32 good.root_long)))) in
     whole
 
+-- a step reads such a key from its bytes
+abbrev TakesKey : {K : Type 0} → (K → Key) → (Reading → Result (K × Reading) ℕ) → Type 0
+TakesKey {K} view step = (r : Reading) (k : K) (s : Reading) → IsBytes r.left → step r ≡ Ok (k, s) → Takes r (key_bytes (view k)) s × IsKey (view k)
+
+lms_takes : TakesKey (λ (k : PublicKey). keys.Lms k) key_at
+unfolding key_at
+lms_takes r k s fits e = let t = key_by_takes ots.kind_of (λ _. Unit {0}) kind_rule r k s fits e in (t.0, t.1)
+
+lms_again : (k : PublicKey) → HasParts k → Again key_at k (lms_bytes k)
+unfolding key_at
+lms_again k good = key_by_again ots.kind_of (λ _. Unit {0}) kind_rule k good tt
+
+levels_rule : IsRule (2 ^ 32) two_levels (λ n. n) (λ n. n ≡ 2)
+levels_rule = record {
+  back = λ n x below e. grind (arith, nat_tests);
+  again = λ x good. (grind (arith, nat_tests), omega (arith, good));
+}
+
+hss_takes : TakesKey (λ (k : TwoLevelKey). keys.Hss k) hss_key_at
+unfolding hss_key_at top_key_at hss_bytes
+hss_takes r x s fits e =
+    let a = bind_ok (number_at w32 two_levels r) (λ l. key_by profile_kind l.1 >>= λ k. Ok (record { top = k.0 }, k.1)) (x, s) e in
+    let b = bind_ok (key_by profile_kind a.0.1) (λ k. Ok (record { top = k.0 }, k.1)) (x, s) a.2 in
+    let t0 = number_takes w32 (2 ^ 32) two_levels (λ n. n) (λ n. n ≡ 2) r a.0.0 a.0.1 wide32 levels_rule fits a.1 in
+    let t1 = key_by_takes profile_kind IsInProfile profile_rule a.0.1 b.0.0 b.0.1 t0.0.fits b.1 in
+    let front : Takes r (to_be_bytes w32 2) a.0.1 = subst (λ (n : ℕ). Takes r (to_be_bytes w32 n) a.0.1) t0.1 t0.0 in
+    let made : TwoLevelKey × Reading = (record { top = b.0.0 }, b.0.1) in
+    subst (λ (y : TwoLevelKey × Reading). Takes r (hss_bytes y.0) y.1 × IsHssKey y.0) (ok_is made (x, s) b.2)
+    (Takes-then _ _ _ _ _ front t1.0, record { top = t1.1; in_profile = t1.2 })
+
+hss_again : (k : TwoLevelKey) → IsHssKey k → Again hss_key_at k (hss_bytes k)
+unfolding hss_key_at top_key_at hss_bytes
+hss_again k good =
+    then_again (number_at w32 two_levels) (λ l r. key_by profile_kind r >>= λ k. Ok (record { top = k.0 }, k.1)) 2 k (to_be_bytes w32 2) (lms_bytes k.top)
+    (number_again w32 (2 ^ 32) two_levels (λ n. n) (λ n. n ≡ 2) 2 wide32 levels_rule refl)
+    (map_again (key_by profile_kind) (λ (t : PublicKey). record { top = t }) k.top (lms_bytes k.top) (key_by_again profile_kind IsInProfile profile_rule k.top good.top good.in_profile))
+
 certificate_fields : CertBody → List ℕ
 certificate_fields c = to_be_bytes w16 c.member ++ (to_be_bytes w16 c.port ++ key_bytes c.key)
 
-certificate_takes : (r : Reading) (c : CertBody) (s : Reading) → IsBytes r.left → certificate_at r ≡ Ok (c, s) → Takes r (certificate_fields c) s × IsCertificate c
-unfolding certificate_at certificate_fields
-certificate_takes r x s fits e =
-    let a = bind_ok (number_at w16 member_number r) (λ m. number_at w16 nonzero m.1 >>= λ p. key_at p.1 >>= λ k. Ok (record { member = m.0; port = p.0; key = keys.Lms k.0 }, k.1)) (x, s) e in
-    let b = bind_ok (number_at w16 nonzero a.0.1) (λ p. key_at p.1 >>= λ k. Ok (record { member = a.0.0; port = p.0; key = keys.Lms k.0 }, k.1)) (x, s) a.2 in
-    let c = bind_ok (key_at b.0.1) (λ k. Ok (record { member = a.0.0; port = b.0.0; key = keys.Lms k.0 }, k.1)) (x, s) b.2 in
+-- A certificate has a spelling, and is of this kind.
+record IsOfKind (kind : ℕ) (c : CertBody) : Type 0 where
+  pub is : IsCertificate c
+  pub kind_is : certificate_kind c.key ≡ kind
+
+certificate_by_takes : {K : Type 0} (kind : ℕ) (view : K → Key) (step : Reading → Result (K × Reading) ℕ) → TakesKey view step → ((k : K) → certificate_kind (view k) ≡ kind)
+    → (r : Reading) (c : CertBody) (s : Reading) → IsBytes r.left → certificate_by view step r ≡ Ok (c, s) → Takes r (certificate_fields c) s × IsOfKind kind c
+unfolding certificate_fields
+certificate_by_takes {K} kind view step taken of_kind r x s fits e =
+    let a = bind_ok (number_at w16 member_number r) (λ m. number_at w16 nonzero m.1 >>= λ p. step p.1 >>= λ k. Ok (record { member = m.0; port = p.0; key = view k.0 }, k.1)) (x, s) e in
+    let b = bind_ok (number_at w16 nonzero a.0.1) (λ p. step p.1 >>= λ k. Ok (record { member = a.0.0; port = p.0; key = view k.0 }, k.1)) (x, s) a.2 in
+    let c = bind_ok (step b.0.1) (λ k. Ok (record { member = a.0.0; port = b.0.0; key = view k.0 }, k.1)) (x, s) b.2 in
     let t0 = number_takes w16 (2 ^ 16) member_number (λ n. n) _ r a.0.0 a.0.1 wide16 (within_rule (2 ^ 16) 0 LAST_MEMBER (lit< tt)) fits a.1 in
     let t1 = number_takes w16 (2 ^ 16) nonzero (λ n. n) _ a.0.1 b.0.0 b.0.1 wide16 (nonzero_rule (2 ^ 16)) t0.0.fits b.1 in
-    let t2 = key_takes b.0.1 c.0.0 c.0.1 t1.0.fits c.1 in
-    let made : CertBody × Reading = (record { member = a.0.0; port = b.0.0; key = keys.Lms c.0.0 }, c.0.1) in
-    subst (λ (y : CertBody × Reading). Takes r (certificate_fields y.0) y.1 × IsCertificate y.0) (ok_is made (x, s) c.2)
-    (Takes-then _ _ _ _ _ t0.0 (Takes-then _ _ _ _ _ t1.0 t2.0), record { member_number = omega (arith, t0.1); has_port = t1.1.0; port_fits = t1.1.1; key = t2.1 })
+    let t2 = taken b.0.1 c.0.0 c.0.1 t1.0.fits c.1 in
+    let made : CertBody × Reading = (record { member = a.0.0; port = b.0.0; key = view c.0.0 }, c.0.1) in
+    subst (λ (y : CertBody × Reading). Takes r (certificate_fields y.0) y.1 × IsOfKind kind y.0) (ok_is made (x, s) c.2) (
+      Takes-then _ _ _ _ _ t0.0 (Takes-then _ _ _ _ _ t1.0 t2.0),
+      record {
+        is = record { member_number = omega (arith, t0.1); has_port = t1.1.0; port_fits = t1.1.1; key = t2.1 };
+        kind_is = of_kind c.0.0;
+      },
+    )
 
 abbrev certificate_of : ℕ → ℕ → Key → CertBody
 certificate_of m p key = record { member = m; port = p; key = key }
 
-lms_certificate_again : (m p : ℕ) (key : PublicKey) → IsCertificate (certificate_of m p (keys.Lms key)) → Again certificate_at (certificate_of m p (keys.Lms key)) (certificate_fields (certificate_of m p (keys.Lms key)))
-unfolding certificate_at certificate_fields
-lms_certificate_again m p key good =
-    let c = certificate_of m p (keys.Lms key) in
-    then_again (number_at w16 member_number) (λ m r. number_at w16 nonzero r >>= λ p. key_at p.1 >>= λ k. Ok (certificate_of m p.0 (keys.Lms k.0), k.1)) m c _ _
+certificate_by_again : {K : Type 0} (view : K → Key) (step : Reading → Result (K × Reading) ℕ) (m p : ℕ) (key : K) → IsCertificate (certificate_of m p (view key))
+    → Again step key (key_bytes (view key)) → Again (certificate_by view step) (certificate_of m p (view key)) (certificate_fields (certificate_of m p (view key)))
+unfolding certificate_fields
+certificate_by_again view step m p key good again =
+    let c = certificate_of m p (view key) in
+    then_again (number_at w16 member_number) (λ m r. number_at w16 nonzero r >>= λ p. step p.1 >>= λ k. Ok (certificate_of m p.0 (view k.0), k.1)) m c _ _
     (number_again w16 (2 ^ 16) member_number (λ n. n) _ m wide16 (within_rule (2 ^ 16) 0 LAST_MEMBER (lit< tt)) (omega arith, omega (arith, good.member_number)))
-    (then_again (number_at w16 nonzero) (λ p r. key_at r >>= λ k. Ok (certificate_of m p (keys.Lms k.0), k.1)) p c _ _
+    (then_again (number_at w16 nonzero) (λ p r. step r >>= λ k. Ok (certificate_of m p (view k.0), k.1)) p c _ _
     (number_again w16 (2 ^ 16) nonzero (λ n. n) _ p wide16 (nonzero_rule (2 ^ 16)) (good.has_port, good.port_fits))
-    (map_again key_at (λ k. certificate_of m p (keys.Lms k)) key _ (key_again key good.key)))
+    (map_again step (λ k. certificate_of m p (view k)) key _ again))
 
-keyed_certificate_again : (m p : ℕ) (key : Key) → IsCertificate (certificate_of m p key) → Again certificate_at (certificate_of m p key) (certificate_fields (certificate_of m p key))
-keyed_certificate_again m p (keys.Lms key) good = lms_certificate_again m p key good
+certificate_takes : (r : Reading) (c : CertBody) (s : Reading) → IsBytes r.left → certificate_at r ≡ Ok (c, s) → Takes r (certificate_fields c) s × IsOfKind 1 c
+unfolding certificate_at
+certificate_takes r c s fits e = certificate_by_takes 1 (λ (k : PublicKey). keys.Lms k) key_at lms_takes (λ k. refl) r c s fits e
 
-certificate_again : (c : CertBody) → IsCertificate c → Again certificate_at c (certificate_fields c)
-certificate_again c good = keyed_certificate_again c.member c.port c.key good
+hss_certificate_takes : (r : Reading) (c : CertBody) (s : Reading) → IsBytes r.left → hss_certificate_at r ≡ Ok (c, s) → Takes r (certificate_fields c) s × IsOfKind 5 c
+unfolding hss_certificate_at
+hss_certificate_takes r c s fits e = certificate_by_takes 5 (λ (k : TwoLevelKey). keys.Hss k) hss_key_at hss_takes (λ k. refl) r c s fits e
+
+of_kind_spelled : (kind : ℕ) (c : CertBody) → IsOfKind kind c → kind ∷ certificate_fields c ≡ certificate_bytes c
+unfolding certificate_bytes certificate_fields
+of_kind_spelled kind c good = ap (λ (k : ℕ). k ∷ certificate_fields c) (sym good.kind_is)
 
 -- ---- bodies
 
-fourth : (kind : ℕ) → eqb kind 1 ≡ false → eqb kind 2 ≡ false → eqb kind 3 ≡ false → 1 ≤ kind → kind ≤ 4 → kind ≡ 4
-fourth kind one two three least most = grind (arith, nat_tests)
+fifth : (kind : ℕ) → eqb kind 1 ≡ false → eqb kind 2 ≡ false → eqb kind 3 ≡ false → eqb kind 4 ≡ false → 1 ≤ kind → kind ≤ 5 → kind ≡ 5
+fifth kind one two three four least most = grind (arith, nat_tests)
 
-kind_back : (n x : ℕ) → kind_number n ≡ Some x → (n ≡ x) × (1 ≤ x) × (x ≤ 4)
+kind_back : (n x : ℕ) → kind_number n ≡ Some x → (n ≡ x) × (1 ≤ x) × (x ≤ 5)
 kind_back n x e = grind (arith, nat_tests)
 
 abbrev read_as : {A : Type 0} → (Reading → Result (A × Reading) ℕ) → (A → Body) → Reading → Result (Body × Reading) ℕ
@@ -257,19 +340,23 @@ read_note_takes : (kind : ℕ) (width : Width) (limit : ℕ) (rule : ℕ → Opt
 read_note_takes kind width limit rule Good wide ruled good spelled r mid b s front e =
     read_as_takes (note_by width rule) (λ n. Note n) (note_fields width) (IsNoteBy Good) kind r mid b s (λ x later. note_by_takes width limit rule Good wide ruled mid x later front.fits) good spelled front e
 
-body_of_kind_takes : (kind : ℕ) (r mid : Reading) (b : Body) (s : Reading) → 1 ≤ kind → kind ≤ 4 → Takes r (kind ∷ []) mid → body_of_kind kind mid ≡ Ok (b, s) → Takes r (body_bytes b) s × IsBody b
-unfolding certificate_bytes accusation_bytes certificate_fields accusation_fields note_at wide_note_at
+body_of_kind_takes : (kind : ℕ) (r mid : Reading) (b : Body) (s : Reading) → 1 ≤ kind → kind ≤ 5 → Takes r (kind ∷ []) mid → body_of_kind kind mid ≡ Ok (b, s) → Takes r (body_bytes b) s × IsBody b
+unfolding accusation_bytes accusation_fields note_at wide_note_at
 body_of_kind_takes kind r mid b s least most front e =
     let at : (k : ℕ) → kind ≡ k → Takes r (k ∷ []) mid = λ k same. subst (λ (n : ℕ). Takes r (n ∷ []) mid) same front in
     let accused = read_as accusation_at (λ a. Accusation a) mid in
     let wide = read_as wide_note_at (λ n. Note n) mid in
-    elim (chosen (eqb kind 1) (read_as certificate_at (λ c. Certificate c) mid) (cond (eqb kind 2) (read_as note_at (λ n. Note n) mid) (cond (eqb kind 3) accused wide)) (Ok (b, s)) e) [
-      | inl p ↦ read_as_takes certificate_at (λ c. Certificate c) certificate_fields IsCertificate 1 r mid b s (λ x later. certificate_takes mid x later front.fits) (λ x good. good) (λ x good. refl) (at 1 (eqb-true kind 1 p.0)) p.1
-      | inr p ↦ elim (chosen (eqb kind 2) (read_as note_at (λ n. Note n) mid) (cond (eqb kind 3) accused wide) (Ok (b, s)) p.1) [
+    let two = read_as hss_certificate_at (λ c. Certificate c) mid in
+    elim (chosen (eqb kind 1) (read_as certificate_at (λ c. Certificate c) mid) (cond (eqb kind 2) (read_as note_at (λ n. Note n) mid) (cond (eqb kind 3) accused (cond (eqb kind 4) wide two))) (Ok (b, s)) e) [
+      | inl p ↦ read_as_takes certificate_at (λ c. Certificate c) certificate_fields (IsOfKind 1) 1 r mid b s (λ x later. certificate_takes mid x later front.fits) (λ x good. good.is) (of_kind_spelled 1) (at 1 (eqb-true kind 1 p.0)) p.1
+      | inr p ↦ elim (chosen (eqb kind 2) (read_as note_at (λ n. Note n) mid) (cond (eqb kind 3) accused (cond (eqb kind 4) wide two)) (Ok (b, s)) p.1) [
         | inl q ↦ read_note_takes 2 w32 (2 ^ 32) any_number IsNarrow wide32 narrow_rule narrow_note (λ n good. narrow_spelled n good.mask) r mid b s (at 2 (eqb-true kind 2 q.0)) q.1
-        | inr q ↦ elim (chosen (eqb kind 3) accused wide (Ok (b, s)) q.1) [
+        | inr q ↦ elim (chosen (eqb kind 3) accused (cond (eqb kind 4) wide two) (Ok (b, s)) q.1) [
           | inl u ↦ read_as_takes accusation_at (λ a. Accusation a) accusation_fields IsAccusation 3 r mid b s (λ x later. accusation_takes mid x later front.fits) (λ x good. good) (λ x good. refl) (at 3 (eqb-true kind 3 u.0)) u.1
-          | inr u ↦ read_note_takes 4 w64 (2 ^ 64) wide_mask IsWideMask wide64 wide_rule wide_note (λ n good. wide_spelled n good.mask.0) r mid b s (at 4 (fourth kind p.0 q.0 u.0 least most)) u.1
+          | inr u ↦ elim (chosen (eqb kind 4) wide two (Ok (b, s)) u.1) [
+            | inl v ↦ read_note_takes 4 w64 (2 ^ 64) wide_mask IsWideMask wide64 wide_rule wide_note (λ n good. wide_spelled n good.mask.0) r mid b s (at 4 (eqb-true kind 4 v.0)) v.1
+            | inr v ↦ read_as_takes hss_certificate_at (λ c. Certificate c) certificate_fields (IsOfKind 5) 5 r mid b s (λ x later. hss_certificate_takes mid x later front.fits) (λ x good. good.is) (of_kind_spelled 5) (at 5 (fifth kind p.0 q.0 u.0 v.0 least most)) v.1
+          ]
         ]
       ]
     ]
@@ -297,11 +384,20 @@ wide_again n good wide =
     then_again (byte_at kind_number) body_of_kind 4 (Note n) (4 ∷ []) (note_fields w64 n) (byte_again kind_number 4 4 refl)
     (map_again wide_note_at (λ n. Note n) n (note_fields w64 n) (note_by_again w64 (2 ^ 64) wide_mask IsWideMask wide64 wide_rule n (noted IsWideMask n good (omega (arith, wide), omega (arith, good.mask_fits)))))
 
-pub body_again : (b : Body) → IsBody b → Again body_at b (body_bytes b)
-unfolding body_at certificate_bytes accusation_bytes certificate_fields accusation_fields
-body_again (Certificate c) good =
+keyed_again : (m p : ℕ) (key : Key) → IsCertificate (certificate_of m p key) → Again body_at (Certificate (certificate_of m p key)) (certificate_bytes (certificate_of m p key))
+unfolding body_at certificate_at hss_certificate_at certificate_bytes certificate_fields
+keyed_again m p (keys.Lms key) good =
+    let c = certificate_of m p (keys.Lms key) in
     then_again (byte_at kind_number) body_of_kind 1 (Certificate c) (1 ∷ []) (certificate_fields c) (byte_again kind_number 1 1 refl)
-    (map_again certificate_at (λ c. Certificate c) c (certificate_fields c) (certificate_again c good))
+    (map_again certificate_at (λ c. Certificate c) c (certificate_fields c) (certificate_by_again (λ (k : PublicKey). keys.Lms k) key_at m p key good (lms_again key good.key)))
+keyed_again m p (keys.Hss key) good =
+    let c = certificate_of m p (keys.Hss key) in
+    then_again (byte_at kind_number) body_of_kind 5 (Certificate c) (5 ∷ []) (certificate_fields c) (byte_again kind_number 5 5 refl)
+    (map_again hss_certificate_at (λ c. Certificate c) c (certificate_fields c) (certificate_by_again (λ (k : TwoLevelKey). keys.Hss k) hss_key_at m p key good (hss_again key good.key)))
+
+pub body_again : (b : Body) → IsBody b → Again body_at b (body_bytes b)
+unfolding body_at accusation_bytes accusation_fields
+body_again (Certificate c) good = keyed_again c.member c.port c.key good
 body_again (Note n) good = elim (cases_lt n.mask.0 (2 ^ 32)) [
   | inl narrow ↦ subst (Again body_at (Note n)) (narrow_spelled n narrow) (narrow_again n good narrow)
   | inr wide ↦ subst (Again body_at (Note n)) (wide_spelled n wide) (wide_again n good wide)

@@ -5,11 +5,12 @@ use Rattle.fields.specs.Reading.{Reading, reading_of}
 use Rattle.lms_ots.specs.declared.kind.OtsKind.TheVariants.{W8}
 use Rattle.lms_tree.specs.declared.kind.TreeKind.TheVariants.{H5}
 use Rattle.lms_tree.specs.Lms.{key_bytes}
+use Rattle.hss.specs.Hss as hss
 use Rattle.records.specs.declared.keys.Key.TheVariants as keys
 use Rattle.records.specs.declared.Body.TheVariants.{Certificate, Note, Accusation}
 use Rattle.records.specs.declared.Record.{Record}
 use Rattle.records.specs.Spelling.{certificate_bytes, note_bytes, accusation_bytes, body_bytes}
-use Rattle.records.specs.Grammar.{key_at, certificate_at, note_at, wide_note_at, accusation_at, body_at, signature_at, record_at}
+use Rattle.records.specs.Grammar.{key_at, top_key_at, hss_key_at, certificate_at, hss_certificate_at, note_at, wide_note_at, accusation_at, body_at, signature_at, record_at}
 use Rattle.records.specs.Signing.{signed_bytes}
 
 abbrev read : List ℕ → Result (Record × Reading) ℕ
@@ -26,6 +27,14 @@ accusation = 3 ∷ 0 ∷ 1 ∷ 0 ∷ 2 ∷ 0 ∷ 0 ∷ 0 ∷ 0 ∷ 0 ∷ 0 ∷ 0
 -- a certificate of member 2 at port 20002
 abbrev certificate : List ℕ
 certificate = 1 ∷ 0 ∷ 2 ∷ 78 ∷ 34 ∷ 0 ∷ 0 ∷ 0 ∷ 5 ∷ 0 ∷ 0 ∷ 0 ∷ 4 ∷ [] ++ replicate 16 7 ++ replicate 32 9
+
+-- the same with a key of two levels
+abbrev two_levels : List ℕ
+two_levels = 5 ∷ 0 ∷ 2 ∷ 78 ∷ 34 ∷ 0 ∷ 0 ∷ 0 ∷ 2 ∷ 0 ∷ 0 ∷ 0 ∷ 5 ∷ 0 ∷ 0 ∷ 0 ∷ 4 ∷ [] ++ replicate 16 7 ++ replicate 32 9
+
+two_level_body : body_bytes (Certificate (record { member = 2; port = 20002; key = keys.Hss (record { top = record { tree = H5; ots = W8; id = replicate 16 7; root = replicate 32 9 } }) })) ≡ two_levels
+unfolding certificate_bytes key_bytes hss.key_bytes
+two_level_body = refl
 
 bodies : (body_bytes (Note (record { member = 2; epoch = 1; mask = record { 0 = 7 } })) ≡ note)
     × (body_bytes (Accusation (record { accuser = 1; accused = 2; epoch = 1; ring = record { 0 = 0 } })) ≡ accusation)
@@ -56,7 +65,7 @@ signed = refl
 -- the place of each fault, with what follows it unread
 places : (read ([]) ≡ Err 0)
     × (read (0 ∷ note) ≡ Err 0)
-    × (read (5 ∷ note) ≡ Err 0)
+    × (read (6 ∷ note) ≡ Err 0)
     × (read (2 ∷ 4 ∷ 0 ∷ note) ≡ Err 1)
     × (read (2 ∷ 0 ∷ 2 ∷ 0 ∷ 0 ∷ 0 ∷ 0 ∷ 0 ∷ 0 ∷ 0 ∷ 0 ∷ note) ≡ Err 3)
     × (read (note ++ 0 ∷ 0 ∷ note) ≡ Err 15)
@@ -69,6 +78,18 @@ places : (read ([]) ≡ Err 0)
     × (read (1 ∷ 0 ∷ 2 ∷ 78 ∷ 34 ∷ 0 ∷ 0 ∷ 0 ∷ 5 ∷ 0 ∷ 0 ∷ 0 ∷ 4 ∷ [] ++ replicate 16 7 ++ replicate 31 9) ≡ Err 29)
 unfolding record_at body_at certificate_at note_at accusation_at key_at signature_at
 places = (refl, refl, refl, refl, refl, refl, refl, refl, refl, refl, refl, refl, refl)
+
+-- kind 5 with a key of one level, with one or three levels, with W2, with a tree that isn't known, and cut; and kind 1 with a
+-- key of two levels
+two_level_places : (read (5 ∷ 0 ∷ 2 ∷ 78 ∷ 34 ∷ 0 ∷ 0 ∷ 0 ∷ 5 ∷ 0 ∷ 0 ∷ 0 ∷ 4 ∷ [] ++ replicate 16 7 ++ replicate 32 9 ++ 0 ∷ 1 ∷ 5 ∷ []) ≡ Err 5)
+    × (read (5 ∷ 0 ∷ 2 ∷ 78 ∷ 34 ∷ 0 ∷ 0 ∷ 0 ∷ 1 ∷ 0 ∷ 0 ∷ 0 ∷ 5 ∷ note) ≡ Err 5)
+    × (read (5 ∷ 0 ∷ 2 ∷ 78 ∷ 34 ∷ 0 ∷ 0 ∷ 0 ∷ 3 ∷ 0 ∷ 0 ∷ 0 ∷ 5 ∷ note) ≡ Err 5)
+    × (read (5 ∷ 0 ∷ 2 ∷ 78 ∷ 34 ∷ 0 ∷ 0 ∷ 0 ∷ 2 ∷ 0 ∷ 0 ∷ 0 ∷ 8 ∷ note) ≡ Err 9)
+    × (read (5 ∷ 0 ∷ 2 ∷ 78 ∷ 34 ∷ 0 ∷ 0 ∷ 0 ∷ 2 ∷ 0 ∷ 0 ∷ 0 ∷ 5 ∷ 0 ∷ 0 ∷ 0 ∷ 2 ∷ note) ≡ Err 13)
+    × (read (5 ∷ 0 ∷ 2 ∷ 78 ∷ 34 ∷ 0 ∷ 0 ∷ 0 ∷ 2 ∷ 0 ∷ 0 ∷ 0 ∷ 5 ∷ 0 ∷ 0 ∷ 0 ∷ 4 ∷ [] ++ replicate 16 7 ++ replicate 31 9) ≡ Err 33)
+    × (read (1 ∷ 0 ∷ 2 ∷ 78 ∷ 34 ∷ 0 ∷ 0 ∷ 0 ∷ 2 ∷ 0 ∷ 0 ∷ 0 ∷ 5 ∷ note) ≡ Err 5)
+unfolding record_at body_at certificate_at hss_certificate_at key_at top_key_at hss_key_at
+two_level_places = (refl, refl, refl, refl, refl, refl, refl)
 
 -- bytes behind a record are left
 rest_is_left : read (note ++ 0 ∷ 2 ∷ 5 ∷ 6 ∷ 1 ∷ 0 ∷ []) ≡ Ok (record { body = Note (record { member = 2; epoch = 1; mask = record { 0 = 7 } }); signature = 5 ∷ 6 ∷ [] }, record { place = 19; left = 1 ∷ 0 ∷ [] })

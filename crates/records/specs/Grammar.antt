@@ -7,12 +7,15 @@ use Rattle.fields.specs.Reading.{Reading, advanced}
 use Rattle.ff_ids.specs.declared.NoteBody.{NoteBody}
 use Rattle.ff_ids.specs.declared.AccBody.{AccBody}
 use Rattle.lms_tree.specs.declared.key.PublicKey.{PublicKey}
+use Rattle.lms_ots.specs.declared.kind.OtsKind.{OtsKind}
 use Rattle.lms_ots.specs.Ots as ots
 use Rattle.lms_tree.specs.Lms.{tree_of}
+use Rattle.hss.specs.Keys.{TwoLevelKey, is_in_profile}
 use Rattle.records.specs.declared.CertBody.{CertBody}
 use Rattle.records.specs.declared.Body.{Body}
 use Rattle.records.specs.declared.Body.TheVariants.{Certificate, Note, Accusation}
 use Rattle.records.specs.declared.Record.{Record}
+use Rattle.records.specs.declared.keys.Key.{Key}
 use Rattle.records.specs.declared.keys.Key.TheVariants as keys
 use Rattle.records.specs.declared.fault.FormFault.{FormFault}
 use Rattle.records.specs.declared.fault.FormFault.TheVariants as faults
@@ -61,25 +64,58 @@ nonzero n = if n == 0 then None else Some n
 abbrev pub wide_mask : ℕ → Option ℕ
 wide_mask n = number_within 4294967296 18446744073709551615 n
 
+-- how many levels a key of two has
+abbrev pub two_levels : ℕ → Option ℕ
+two_levels n = number_within 2 2 n
+
 abbrev pub signature_length : ℕ → Option ℕ
 signature_length n = number_within 1 9004 n
 
 -- ---- bodies
 
-unfoldable pub key_at : Reading → Result (PublicKey × Reading) ℕ
-key_at r = do
+-- the one-time signatures of a key of two levels are of W4 or W8
+abbrev pub kept_in_profile : Option OtsKind → Option OtsKind
+kept_in_profile (Some kind) = if is_in_profile kind then Some kind else None
+kept_in_profile None = None
+
+abbrev pub profile_kind : ℕ → Option OtsKind
+profile_kind n = kept_in_profile (ots.kind_of n)
+
+-- a key of one level whose one-time signatures keep this rule
+abbrev pub key_by : (ℕ → Option OtsKind) → Reading → Result (PublicKey × Reading) ℕ
+key_by rule r = do
   tree ← number_at w32 tree_of r
-  kind ← number_at w32 ots.kind_of tree.1
+  kind ← number_at w32 rule tree.1
   id ← bytes_at 16 kind.1
   root ← bytes_at 32 id.1
   Ok (record { tree = tree.0; ots = kind.0; id = id.0; root = root.0 }, root.1)
 
-unfoldable pub certificate_at : Reading → Result (CertBody × Reading) ℕ
-certificate_at r = do
+unfoldable pub key_at : Reading → Result (PublicKey × Reading) ℕ
+key_at r = key_by ots.kind_of r
+
+unfoldable pub top_key_at : Reading → Result (PublicKey × Reading) ℕ
+top_key_at r = key_by profile_kind r
+
+-- the number of levels, and the top key
+unfoldable pub hss_key_at : Reading → Result (TwoLevelKey × Reading) ℕ
+hss_key_at r = do
+  levels ← number_at w32 two_levels r
+  top ← top_key_at levels.1
+  Ok (record { top = top.0 }, top.1)
+
+-- a certificate whose key is read so
+abbrev pub certificate_by : {K : Type 0} → (K → Key) → (Reading → Result (K × Reading) ℕ) → Reading → Result (CertBody × Reading) ℕ
+certificate_by view step r = do
   member ← number_at w16 member_number r
   port ← number_at w16 nonzero member.1
-  key ← key_at port.1
-  Ok (record { member = member.0; port = port.0; key = keys.Lms key.0 }, key.1)
+  key ← step port.1
+  Ok (record { member = member.0; port = port.0; key = view key.0 }, key.1)
+
+unfoldable pub certificate_at : Reading → Result (CertBody × Reading) ℕ
+certificate_at r = certificate_by (λ k. keys.Lms k) key_at r
+
+unfoldable pub hss_certificate_at : Reading → Result (CertBody × Reading) ℕ
+hss_certificate_at r = certificate_by (λ k. keys.Hss k) hss_key_at r
 
 -- a note whose mask has this width and keeps this rule
 abbrev pub note_by : Width → (ℕ → Option ℕ) → Reading → Result (NoteBody × Reading) ℕ
@@ -104,7 +140,7 @@ accusation_at r = do
   Ok (record { accuser = accuser.0; accused = accused.0; epoch = epoch.0; ring = record { 0 = ring.0 } }, ring.1)
 
 abbrev pub kind_number : ℕ → Option ℕ
-kind_number n = number_within 1 4 n
+kind_number n = number_within 1 5 n
 
 -- the body of this kind
 abbrev pub body_of_kind : ℕ → Reading → Result (Body × Reading) ℕ
@@ -112,7 +148,8 @@ body_of_kind kind r =
     if kind == 1 then (certificate_at r >>= λ c. Ok (Certificate c.0, c.1))
     else (if kind == 2 then (note_at r >>= λ n. Ok (Note n.0, n.1))
     else (if kind == 3 then (accusation_at r >>= λ a. Ok (Accusation a.0, a.1))
-    else (wide_note_at r >>= λ n. Ok (Note n.0, n.1))))
+    else (if kind == 4 then (wide_note_at r >>= λ n. Ok (Note n.0, n.1))
+    else (hss_certificate_at r >>= λ c. Ok (Certificate c.0, c.1)))))
 
 unfoldable pub body_at : Reading → Result (Body × Reading) ℕ
 body_at r = byte_at kind_number r >>= λ kind. body_of_kind kind.0 kind.1

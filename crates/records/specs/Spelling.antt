@@ -9,11 +9,18 @@ use Rattle.records.specs.declared.CertBody.{CertBody}
 use Rattle.records.specs.declared.Body.{Body}
 use Rattle.records.specs.declared.Body.TheVariants.{Certificate, Note, Accusation}
 use Rattle.records.specs.declared.Record.{Record}
+use Rattle.records.specs.declared.keys.Key.{Key}
+use Rattle.records.specs.declared.keys.Key.TheVariants as keys
 use Rattle.records.specs.Keys.{IsKey, key_bytes}
 
--- kind 1, the member, its port, and the key's 56 bytes
+-- a certificate's kind: 1 where its key is of one level, and 5 where it is of two
+abbrev pub certificate_kind : Key → ℕ
+certificate_kind (keys.Lms key) = 1
+certificate_kind (keys.Hss key) = 5
+
+-- the kind, the member, its port, and the key's 56 or 60 bytes
 unfoldable pub certificate_bytes : CertBody → List ℕ
-certificate_bytes c = 1 ∷ (to_be_bytes w16 c.member ++ (to_be_bytes w16 c.port ++ key_bytes c.key))
+certificate_bytes c = certificate_kind c.key ∷ (to_be_bytes w16 c.member ++ (to_be_bytes w16 c.port ++ key_bytes c.key))
 
 -- the member, its epoch, and the mask, in so many bytes
 abbrev pub note_fields : Width → NoteBody → List ℕ

@@ -6,7 +6,7 @@ ghost use Rattle.std.specs.Prelude.{◌≡◌};
 
 pub use checked::Checked;
 pub use fault::FormFault;
-pub use keys::{Key, RecordFault};
+pub use keys::{Key, KeyFault, RecordFault};
 pub use reading::{next_record, pass_record, read_record};
 pub use signing::{Signed, signed_bytes};
 pub use writing::write_record;

@@ -4,10 +4,10 @@ ghost use Rattle.std.specs.Prelude.{◌≡◌, ℕ, ◌++◌, List, take, length
 ghost use Rattle.fields.specs.Reading.{reading_of};
 ghost use Rattle.records.specs.declared.Record.{Record as Signed};
 ghost use Rattle.records.specs.Spelling.{IsRecord};
-ghost use Rattle.records.specs.Grammar.{Reads, Passes, ReadsRecord, GivesRecord, IsGiven, certificate_at, note_at, wide_note_at, accusation_at, body_at, signature_at, record_at};
+ghost use Rattle.records.specs.Grammar.{Reads, Passes, ReadsRecord, GivesRecord, IsGiven, certificate_at, hss_certificate_at, note_at, wide_note_at, accusation_at, body_at, signature_at, record_at};
 
 use crate::fault::FormFault;
-use crate::steps::{Misread, epoch, key, mask, member, port, ring, wide_mask};
+use crate::steps::{Misread, epoch, hss_key, key, mask, member, port, ring, wide_mask};
 use crate::{Body, CertBody, Key, Record};
 use ff_ids::{AccBody, NoteBody};
 use fields::{Bytes, Reader};
@@ -27,6 +27,20 @@ fn certificate(reader: &mut Reader) -> Result<CertBody, Misread>
         member,
         port,
         key: Key::Lms(key),
+    })
+}
+
+#[tactic(auto, unfolding(crate::specs::Grammar::hss_certificate_at))]
+fn hss_certificate(reader: &mut Reader) -> Result<CertBody, Misread>
+    ensures { Reads (λ c. c) result reader.new (hss_certificate_at reader.old) }
+{
+    let member = member(reader)?;
+    let port = port(reader)?;
+    let key = hss_key(reader)?;
+    Ok(CertBody {
+        member,
+        port,
+        key: Key::Hss(key),
     })
 }
 
@@ -84,6 +98,7 @@ fn body(reader: &mut Reader) -> Result<Body, Misread>
         Ok(2) => Ok(Body::Note(note(reader)?)),
         Ok(3) => Ok(Body::Accusation(accusation(reader)?)),
         Ok(4) => Ok(Body::Note(wide_note(reader)?)),
+        Ok(5) => Ok(Body::Certificate(hss_certificate(reader)?)),
         _ => Err(Misread { place }),
     }
 }
@@ -122,7 +137,9 @@ pub fn next_record(alloc: Global, reader: &mut Reader) -> Result<Record, FormFau
 pub fn pass_record(reader: &mut Reader) -> Result<(), Misread>
     ensures { Passes result reader.new (record_at reader.old) }
 {
-    body(reader)?;
+    if let Err(fault) = body(reader) {
+        return Err(fault);
+    }
     signature(reader)?;
     Ok(())
 }

@@ -10,10 +10,10 @@ use arrayvec::ArrayVec;
 use ff_ids::Group;
 use std::marker::Model;
 
-/// The bytes that a signature is over, at most 84. Contracts see their list.
+/// The bytes that a signature is over, at most 88. Contracts see their list.
 #[derive(Drop)]
 pub struct Signed {
-    bytes: ArrayVec<u8, 84>,
+    bytes: ArrayVec<u8, 88>,
 }
 
 impl Model for Signed {

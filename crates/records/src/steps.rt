@@ -1,14 +1,16 @@
 //! Fields of records, one step of a reader each. A refused step gives the place at which its field begins; the
 //! reader may then have moved.
 
-ghost use Rattle.std.specs.Prelude.{◌≡◌};
+ghost use Rattle.std.specs.Prelude.{◌≡◌, true, IfOk};
 ghost use Rattle.std.specs.Int.{w16, w32, w64};
 ghost use Rattle.lms_ots.specs.Ots.{kind_of};
 ghost use Rattle.lms_tree.specs.Lms.{tree_of};
-ghost use Rattle.records.specs.Grammar.{Reads, number_at, byte_at, bytes_at, any_number, member_number, nonzero, wide_mask, key_at};
+ghost use Rattle.hss.specs.Keys.{is_in_profile};
+ghost use Rattle.records.specs.Grammar.{Reads, number_at, byte_at, bytes_at, any_number, member_number, nonzero, wide_mask, profile_kind, two_levels, key_at, top_key_at, hss_key_at};
 
 use ff_ids::{Bits, Epoch, MEMBERS, Mask, MemberId, RingNo};
 use fields::Reader;
+use hss::{HssKey, is_in_profile};
 use lms_ots::OtsKind;
 use lms_tree::{PublicKey, TreeKind};
 
@@ -106,6 +108,32 @@ pub fn ots_kind(reader: &mut Reader) -> Result<OtsKind, Misread>
     OtsKind::from_type(number).ok_or(Misread { place })
 }
 
+/// Four bytes: the type of W4 or W8.
+pub fn profile_kind(reader: &mut Reader) -> Result<OtsKind, Misread>
+    ensures read { Reads (λ k. k) result reader.new (number_at w32 profile_kind reader.old) }
+    ensures in_profile { IfOk result (λ k. is_in_profile k ≡ true) }
+{
+    let place = reader.place();
+    let Ok(number) = reader.u32() else {
+        return Err(Misread { place });
+    };
+    match OtsKind::from_type(number) {
+        Some(kind) if is_in_profile(kind) => Ok(kind),
+        _ => Err(Misread { place }),
+    }
+}
+
+/// Four bytes: the number 2, of a key's levels.
+pub fn levels(reader: &mut Reader) -> Result<u32, Misread>
+    ensures { Reads (λ n. n) result reader.new (number_at w32 two_levels reader.old) }
+{
+    let place = reader.place();
+    match reader.u32() {
+        Ok(number) if number == 2 => Ok(number),
+        _ => Err(Misread { place }),
+    }
+}
+
 /// So many bytes.
 pub fn array<const N: usize>(reader: &mut Reader) -> Result<[u8; N], Misread>
     ensures { Reads (λ a. a) result reader.new (bytes_at N reader.old) }
@@ -119,7 +147,7 @@ pub fn array<const N: usize>(reader: &mut Reader) -> Result<[u8; N], Misread>
     Ok(array)
 }
 
-/// A public key in 56 bytes, as four fields (RFC 8554, section 5.3).
+/// A public key of one level in 56 bytes, as four fields (RFC 8554, section 5.3).
 #[tactic(auto, unfolding(crate::specs::Grammar::key_at))]
 pub fn key(reader: &mut Reader) -> Result<PublicKey, Misread>
     ensures { Reads (λ k. k) result reader.new (key_at reader.old) }
@@ -134,4 +162,32 @@ pub fn key(reader: &mut Reader) -> Result<PublicKey, Misread>
         id,
         root,
     })
+}
+
+/// The top key of a key of two levels, in 56 bytes: a key whose one-time signatures are of W4 or W8.
+#[tactic(auto, unfolding(crate::specs::Grammar::top_key_at))]
+pub fn top_key(reader: &mut Reader) -> Result<PublicKey, Misread>
+    ensures read { Reads (λ k. k) result reader.new (top_key_at reader.old) }
+    ensures in_profile { IfOk result (λ k. is_in_profile k.ots ≡ true) }
+{
+    let tree = tree_kind(reader)?;
+    let ots = profile_kind(reader)?;
+    let id = array::<16>(reader)?;
+    let root = array::<32>(reader)?;
+    Ok(PublicKey {
+        tree,
+        ots,
+        id,
+        root,
+    })
+}
+
+/// A public key of two levels in 60 bytes: the number of its levels, and its top key (RFC 8554, section 6.1).
+#[tactic(auto, unfolding(crate::specs::Grammar::hss_key_at))]
+pub fn hss_key(reader: &mut Reader) -> Result<HssKey, Misread>
+    ensures { Reads (λ k. k) result reader.new (hss_key_at reader.old) }
+{
+    levels(reader)?;
+    let top = top_key(reader)?;
+    Ok(HssKey { top })
 }

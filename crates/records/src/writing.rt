@@ -3,15 +3,15 @@
 ghost use Rattle.std.specs.Prelude.{◌≡◌, ◌<◌, ◌≤◌, ◌+◌, ◌^◌, true, false, [], ◌++◌, length, IfOk, IfSome, IfNone, OnOk, OnErr};
 ghost use Rattle.arrayvec.specs.ArrayVec.{array_vec_len};
 ghost use Rattle.ff_ids.specs.Masks.{is_wide};
-ghost use Rattle.records.specs.Spelling.{IsWritable, HasPort, IsBody, IsCertificate, IsNote, IsAccusation, body_bytes, certificate_bytes, note_bytes, accusation_bytes, record_bytes};
+ghost use Rattle.records.specs.Spelling.{IsWritable, HasPort, IsBody, IsCertificate, IsNote, IsAccusation, body_bytes, certificate_bytes, certificate_kind, note_bytes, accusation_bytes, record_bytes};
 
-use crate::{Body, CertBody, Record};
+use crate::{Body, CertBody, Key, Record};
 use arrayvec::ArrayVec;
 use ff_ids::{AccBody, Mask, NoteBody};
 use fields::{NoMemory, Writer};
 
 /// The bytes of a body, of which a certificate has the most.
-type BodyBytes = ArrayVec<u8, 61>;
+type BodyBytes = ArrayVec<u8, 65>;
 
 /// Appends bytes for which there is room.
 pub(crate) fn put<const N: usize>(out: &mut ArrayVec<u8, N>, bytes: &[u8])
@@ -23,13 +23,23 @@ pub(crate) fn put<const N: usize>(out: &mut ArrayVec<u8, N>, bytes: &[u8])
     }
 }
 
+/// The kind of certificates of such a key.
+fn certificate_kind(key: &Key) -> u8
+    ensures { result ≡ certificate_kind key.now }
+{
+    match key {
+        Key::Lms(_) => 1,
+        Key::Hss(_) => 5,
+    }
+}
+
 #[tactic(auto, unfolding(crate::specs::Spelling::certificate_bytes))]
 fn certificate_bytes(certificate: &CertBody) -> BodyBytes
     ensures value { result.items ≡ certificate_bytes certificate.now }
     ensures body { 0 < certificate.now.port → IsCertificate certificate.now }
 {
     let mut out = ArrayVec::new();
-    out.push(1);
+    out.push(certificate_kind(&certificate.key));
     put(&mut out, &certificate.member.get().to_be_bytes());
     put(&mut out, &certificate.port.to_be_bytes());
     put(&mut out, certificate.key.write().as_slice());
@@ -78,7 +88,7 @@ fn accusation_bytes(acc: &AccBody) -> BodyBytes
 /// The bytes of a body.
 pub(crate) fn body_bytes(body: &Body) -> BodyBytes
     ensures value { result.items ≡ body_bytes body.now }
-    ensures few { array_vec_len result ≤ 61 }
+    ensures few { array_vec_len result ≤ 65 }
     ensures body { HasPort body.now → IsBody body.now }
 {
     match body {

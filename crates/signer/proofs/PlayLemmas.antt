@@ -2,17 +2,18 @@
 use Rattle.std.proofs.Common.{◌≡◌, ℕ, Option, None, Some, List, [], ◌∷◌, ◌++◌, map, length, ◌+◌, ◌<◌, ◌≤◌, inl, inr, Ok, Err, arith, append-nil, length-append, refl, sym, ap, ◌∙◌, subst}
 use Rattle.std.specs.List.{AllByRecursion}
 use Rattle.std.proofs.lemmas.List.{map-append}
-use Rattle.ports.specs.Disk.{Fails, IsAmong, Moment, Since, stays}
+use Rattle.ports.specs.Disk.{Fails, IsAmong, Leaves, Moment, Since, settled, stays}
 use Rattle.ports.specs.DiskLaws.{now_leaves}
+use Rattle.ports.proofs.MomentLemmas.{settled_only}
 use Rattle.ports.specs.MemoryDisk.{now_of, moments_of}
 use Rattle.ports.specs.Outside.{OfDisk}
 use Rattle.ports.specs.declared.memory_disk.Change.{Change}
 use Rattle.ports.proofs.SinceLemmas.{Since-weaken, newest_has}
 use Rattle.ff_ids.specs.declared.Group.{Group}
 use Rattle.ff_ids.specs.declared.Mask.{Mask}
-use Rattle.lms_tree.specs.declared.secret.Secret.{Secret}
-use Rattle.lms_tree.specs.Leaves.{index_count}
-use Rattle.records.specs.Signing.{CheckedRecord}
+use Rattle.sign_keys.proofs.Tops.{top-signs}
+use Rattle.sign_keys.specs.Keys.{KeySecret, index_count}
+use Rattle.records.specs.Signing.{CheckedRecord, signed_bytes}
 use Rattle.records.specs.declared.Body.{Body}
 use Rattle.epoch_store.specs.declared.Stored.{Stored}
 use Rattle.epoch_store.specs.declared.seat.Seat.{Seat}
@@ -22,10 +23,10 @@ use Rattle.signer.specs.declared.SignFault.{SignFault}
 use Rattle.signer.specs.declared.SignFault.TheVariants.{OutOfMemory, Closed, Exhausted, StoreFault}
 use Rattle.signer.specs.Signing.{SignerState, after_signing, signed_record, signed_by}
 use Rattle.signer.specs.Signs.{Signs}
-use Rattle.signer.specs.Lives.{Spent, EndsEither, EndsNow, IsLiving}
+use Rattle.signer.specs.Lives.{Spent, EndsEither, EndsNow, IsLiving, Lived}
 use Rattle.signer.specs.declared.key_lives.Act.{Act}
 use Rattle.signer.specs.declared.key_lives.Holder.{Holder}
-use Rattle.signer.specs.Played.{IsQuiet, IsWithin, key_of, EndsSome, EndsSomeNow, Stands, Handed, HandsOut, AreOnce, Under, record_of, spent_for, under_after, with_record}
+use Rattle.signer.specs.Played.{HasTop, IsQuiet, IsWithin, key_of, EndsSome, EndsSomeNow, Stands, Handed, HandsOut, AreOnce, Under, record_of, spent_for, under_after, with_record}
 use Rattle.signer.proofs.LivesLemmas.{spent_once}
 use Rattle.signer.proofs.LivingLemmas.{ends-settled, kept_by_move, lived-under, nothing_spent, settled-leaves}
 
@@ -72,6 +73,11 @@ some-moved tag other before spent state seat mask older newer ends at since =
     (Since-weaken (EndsEither tag other before spent) (EndsSome before spent) older newer (either-some tag other before spent)
     ((kept_by_move tag other state seat mask older newer at since).0 before spent (some-settled tag before spent state seat older ends at)))
 
+-- a crash
+pub some-crashed : (before : List ℕ) (spent : List Spent) (now : Moment) (c : List ℕ) → EndsSome before spent now → Leaves now c → EndsSome before spent (settled c)
+some-crashed before spent now c ends leaves = λ d left.
+    subst (λ (file : List ℕ). (tag : List ℕ) × Lived tag before file spent) (sym (settled_only c d left)) (ends c leaves)
+
 -- so much has come about: what was spent stands, and its records were handed out
 pub record Plays (h : Holder) (before : List ℕ) (signer : Option SignerState) (moments : List Moment) (records : List CheckedRecord) : Type 0 where
   pub under : Under
@@ -113,10 +119,10 @@ pub signs_on : (h : Holder) (under : Under) (before : List ℕ) (spent : List Sp
 signs_on h under before spent s later body rec old new signs stands =
     let key : later.key ≡ key_of h = ap (λ (z : SignerState). z.key) signs.after ∙ stands.1 in
     let group : later.group ≡ under.group = ap (λ (z : SignerState). z.group) signs.after ∙ stands.2 in
-    let by_key : signed_record s body ≡ signed_by s.group (key_of h) s.state.next body = ap (λ (k : Secret). signed_by s.group k s.state.next body) stands.1 in
+    let by_key : signed_record s body ≡ signed_by s.group (key_of h) s.state.next body = ap (λ (k : KeySecret). signed_by s.group k s.state.next body) stands.1 in
     let by_group : signed_by s.group (key_of h) s.state.next body ≡ signed_by under.group (key_of h) s.state.next body = ap (λ (g : Group). signed_by g (key_of h) s.state.next body) stands.2 in
     let last : Spent = record { index = s.state.next; body = body } in
-    let within : IsWithin h last = subst (λ (k : Secret). s.state.next < index_count k) stands.1 signs.answers.1 in
+    let within : IsWithin h last = subst (λ (k : KeySecret). s.state.next < index_count k) stands.1 signs.answers.1 in
     (last, signs.signed ∙ by_key ∙ by_group, within, (signs.lives under.tag before spent stands.0, key, group))
 
 -- a call that hands out nothing
@@ -152,15 +158,19 @@ plays_none h now past quiet = record {
   stands = some-of quiet.1 now.image [] (now ∷ past) (nothing_spent quiet.1 quiet.2 now past quiet.0 quiet.3);
 }
 
+tops : (h : Holder) (handed : List Handed) → AllByRecursion (IsWithin h) (spent_for handed) → AllByRecursion (HasTop h) handed
+tops h [] within = tt
+tops h (x ∷ xs) within = (top-signs (key_of h) x.spent.index (signed_bytes x.group.tag x.group.t x.spent.body) within.0, tops h xs within.1)
+
 -- what was handed out in all
 pub once_of : (h : Holder) (before : List ℕ) (signer : Option SignerState) (start : List ℕ) (log : List Change) (records : List CheckedRecord) → Plays h before signer (moments_of start log) records → AreOnce h records
 once_of h before signer start log records plays =
     let now = now_of start log in
     let lived = ends_of h plays.under before (spent_for plays.handed) signer (moments_of start log) plays.stands now.image (now_leaves start log) in
-    record { handed = plays.handed; are = plays.are; within = plays.within; once = spent_once lived.0 before now.image (spent_for plays.handed) lived.1 }
+    record { handed = plays.handed; are = plays.are; within = plays.within; once = spent_once lived.0 before now.image (spent_for plays.handed) lived.1; tops = tops h plays.handed plays.within }
 
 pub none_once : (h : Holder) → AreOnce h []
-none_once h = record { handed = []; are = refl; within = tt; once = record { indexes_rise = tt; epochs_rise = tt } }
+none_once h = record { handed = []; are = refl; within = tt; once = record { indexes_rise = tt; epochs_rise = tt }; tops = tt }
 
 -- a file that was made is a settled store
 pub quiet_after : (change : List ℕ → List ℕ) (tag : List ℕ) (state : Stored) (seat : Seat) (was : Moment) (older : List Moment) (moments : List Moment) → SettlesAs change (was ∷ older) moments → IsSettled tag state seat moments → IsQuiet moments

@@ -2,8 +2,7 @@
 use Rattle.std.specs.Prelude.{◌≡◌, ℕ, ◌<◌, Option, None, Some, List, [], ◌∷◌, ◌++◌, map}
 use Rattle.std.specs.List.{AllByRecursion}
 use Rattle.ff_ids.specs.declared.Group.{Group}
-use Rattle.lms_tree.specs.declared.secret.Secret.{Secret}
-use Rattle.lms_tree.specs.Leaves.{index_count}
+use Rattle.sign_keys.specs.Keys.{KeySecret, TopSignsTree, index_count, key_of_kinds}
 use Rattle.ports.specs.Disk.{Moment, Leaves, settled}
 use Rattle.ports.specs.MemoryDisk.{DiskState, moments_of}
 use Rattle.records.specs.Signing.{CheckedRecord}
@@ -25,8 +24,8 @@ IsQuiet [] = ⊥
 IsQuiet (now ∷ past) = (now ≡ settled now.image) × (tag : List ℕ) × (state : Stored) × StoreOf tag now.image state
 
 -- the key of what a member keeps
-abbrev pub key_of : Holder → Secret
-key_of h = record { tree = h.tree; ots = h.ots; id = h.id; seed = h.seed }
+abbrev pub key_of : Holder → KeySecret
+key_of h = key_of_kinds h.kinds h.id h.seed
 
 -- what a signer is opened under: its group, and the tag of its store
 pub record Under : Type 0 where
@@ -65,6 +64,10 @@ record_of h handed = signed_by handed.group (key_of h) handed.spent.index handed
 abbrev pub IsWithin : Holder → Spent → Type 0
 IsWithin h spent = spent.index < index_count (key_of h)
 
+-- What the top leaf of this index signs in the record is the public key of its own bottom tree.
+abbrev pub HasTop : Holder → Handed → Type 0
+HasTop h handed = TopSignsTree (key_of h) handed.spent.index (record_of h handed).rec.signature
+
 abbrev pub spent_for : List Handed → List Spent
 spent_for handed = map (λ x. x.spent) handed
 
@@ -79,9 +82,11 @@ abbrev pub with_record : List CheckedRecord → Option CheckedRecord → List Ch
 with_record records None = records
 with_record records (Some rec) = records ++ rec ∷ []
 
--- these are the records, of whatever groups, by leaves of the key whose indexes rise strictly, as do the epochs of the notes
+-- These are the records, of whatever groups, by leaves of the key whose indexes rise strictly, as do the epochs of the notes;
+-- of a key of two levels each top leaf has signed one message in all of them.
 pub record AreOnce (h : Holder) (records : List CheckedRecord) : Type 0 where
   pub handed : List Handed
   pub are : records ≡ map (record_of h) handed
   pub within : AllByRecursion (IsWithin h) (spent_for handed)
   pub once : IsOnce (spent_for handed)
+  pub tops : AllByRecursion (HasTop h) handed

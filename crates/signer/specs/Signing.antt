@@ -3,25 +3,21 @@ use Rattle.std.specs.Prelude.{◌≡◌, ℕ, ◌+◌, ◌^◌, ◌<◌, Bool, t
 use Rattle.ff_ids.specs.declared.TheConstants.{MAX_RINGS}
 use Rattle.ff_ids.specs.declared.Group.{Group}
 use Rattle.ff_ids.specs.declared.Mask.{Mask}
-use Rattle.lms_tree.specs.declared.secret.Secret.{Secret}
-use Rattle.lms_tree.specs.Leaves.{index_count}
-use Rattle.lms_tree.specs.Lms.{public_of, signature_of}
 use Rattle.records.specs.declared.Body.{Body}
 use Rattle.records.specs.declared.Body.TheVariants.{Certificate, Note, Accusation}
-use Rattle.records.specs.declared.keys.Key.{Key}
-use Rattle.records.specs.declared.keys.Key.TheVariants as keys
 use Rattle.records.specs.Signing.{signed_bytes, CheckedRecord}
+use Rattle.sign_keys.specs.Keys.{KeySecret, index_count, public_key, signature_of}
 use Rattle.epoch_store.specs.declared.Stored.{Stored}
 use Rattle.epoch_store.specs.declared.seat.Seat.{Seat}
 use Rattle.epoch_store.specs.Seat.{next_seat}
 use Rattle.signer.specs.declared.SignFault.{SignFault}
 use Rattle.signer.specs.declared.SignFault.TheVariants.{OutOfMemory, Closed, Exhausted, StoreFault}
 
--- what a signer keeps: its group and key, the number of the next leaf, what its store keeps and the seat of the
+-- what a signer keeps: its group and key, the next index of the key, what its store keeps and the seat of the
 -- store's next entry, and whether the disk has failed under it
 pub record SignerState : Type 0 where
   pub group : Group
-  pub key : Secret
+  pub key : KeySecret
   pub leaf : ℕ
   pub state : Stored
   pub seat : Seat
@@ -69,12 +65,8 @@ after_signing s body (Err Closed) = s
 after_signing s body (Err (Exhausted next)) = s
 after_signing s body (Err StoreFault) = record s { closed = true }
 
--- the public half of the key
-abbrev pub public_key : Secret → Key
-public_key key = keys.Lms (public_of key)
-
--- the record of the body, with the signature by the leaf of this index over its signed bytes
-abbrev pub signed_by : Group → Secret → ℕ → Body → CheckedRecord
+-- the record of the body, with the signature by this index over its signed bytes
+abbrev pub signed_by : Group → KeySecret → ℕ → Body → CheckedRecord
 signed_by group key index body = record {
   rec = record { body = body; signature = signature_of key index (signed_bytes group.tag group.t body) };
   key = public_key key;

@@ -8,6 +8,7 @@ use Rattle.ports.specs.DiskSteps.{came_to, runs_on}
 use Rattle.ports.specs.Outside.{OfDisk}
 use Rattle.records.specs.declared.Body.{Body}
 use Rattle.records.specs.Signing.{CheckedRecord}
+use Rattle.sign_keys.specs.Keys.{TopSignsTree}
 use Rattle.epoch_store.specs.Store.{IsSettled, LeavesEither, LeavesState}
 use Rattle.epoch_store.specs.Asked.{put_calls}
 use Rattle.signer.specs.declared.SignFault.{SignFault}
@@ -36,6 +37,7 @@ pub record Signs (s later : SignerState) (body : Body) (result : Result CheckedR
   pub faults : new.faults ≡ counted (is_store_fault result) old.faults
   pub answers : AnswersBy s result
   pub signed : IfOk result (λ rec. rec ≡ signed_record s body)
+  pub top : IfOk result (λ rec. TopSignsTree s.key s.state.next rec.rec.signature)
   pub after : later ≡ after_signing s body result
   pub calls : MakesCalls result (put_calls s.seat (stored_after s.state body)) old.calls new.calls
   pub follows : MakesFrom result (put_calls s.seat (stored_after s.state body)) old.model new.model

@@ -11,10 +11,9 @@ use crate::Signer;
 use epoch_store::{Store, make};
 use ff_ids::{AccBody, Group, MAX_RINGS, Mask, MemberId};
 use fields::NoMemory;
-use lms_ots::OtsKind;
-use lms_tree::{SecretKey, TreeKind};
 use ports::MemoryDisk;
 use records::Checked;
+use sign_keys::{Kinds, SignKey};
 use std::alloc::Global;
 
 const NAME: &str = "store";
@@ -25,8 +24,7 @@ const MOST: u32 = 32_768;
 /// What a member keeps outside its store: what its key is made from.
 #[derive(Clone, Copy)]
 pub struct Holder {
-    pub tree: TreeKind,
-    pub ots: OtsKind,
+    pub kinds: Kinds,
     pub id: [u8; 16],
     pub seed: [u8; 32],
 }
@@ -65,14 +63,16 @@ fn reopen(
     let Ok(store) = Store::open(disk, NAME, tag) else {
         return None;
     };
-    let Ok(key) = SecretKey::make(alloc, holder.tree, holder.ots, holder.id, holder.seed) else {
-        return None;
-    };
-    let (tree, leaves) = key.split();
-    if store.state().next > tree.index_count() {
+    if !holder.kinds.is_in_profile() {
         return None;
     }
-    Some(Signer::open(group, tree, leaves, store))
+    let Ok(key) = SignKey::make(alloc, holder.kinds, holder.id, holder.seed) else {
+        return None;
+    };
+    if store.state().next > key.index_count() {
+        return None;
+    }
+    Some(Signer::open(group, key, store))
 }
 
 /// Opens the store and moves it, if nothing fails.
@@ -203,7 +203,8 @@ fn play_on(
 
 /// Makes a store with this tag on a disk in memory that fails at the calls numbered in `fail`, and does all the acts.
 /// Whatever they are, under whatever tags and for whatever groups, the records that were handed out are signed by leaves
-/// whose indexes rise strictly, and so do the epochs of the notes among them.
+/// whose indexes rise strictly, and so do the epochs of the notes among them. Of a key of two levels each top leaf signs one
+/// message in all of them, the public key of its own bottom tree.
 pub fn play(
     alloc: Global,
     holder: &Holder,

@@ -1,18 +1,15 @@
-//! Floor: keys. A signer: records signed under one key, each with an index of its own, whatever stops it. The next
-//! index is in the store before the leaf that has the index is spent. The module `key_lives` takes a key through calls
-//! in any order, and shows what is promised over all its lives. A node signs with it, and `authority` with the
-//! authority's key.
+//! Floor: keys. A signer: records signed under one key, each with an index of its own, whatever stops it. The store is
+//! past an index before the index signs. The module `key_lives` takes a key through calls in any order, and shows what
+//! is promised over all its lives. A node signs with it, and `authority` with the authority's key.
 #![tactic(auto)]
 
 ghost use Rattle.std.specs.Prelude.{◌≡◌, ℕ, ◌+◌, ◌<◌, ◌≤◌, ◌^◌, ◌++◌, List, length, true, false, OnOk, IfOk, IfErr};
 ghost use Rattle.ff_ids.specs.declared.TheConstants.{MAX_RINGS};
 ghost use Rattle.ports.specs.Count.{counted};
 ghost use Rattle.ports.specs.Disk.{Moment, Since};
-ghost use Rattle.lms_tree.specs.Kinds.{signature_length};
-ghost use Rattle.lms_tree.specs.Leaves.{index_count};
-ghost use Rattle.lms_tree.specs.Lms.{public_of};
 ghost use Rattle.records.specs.Spelling.{HasPort};
 ghost use Rattle.records.specs.declared.Body.TheVariants.{Certificate, Accusation};
+ghost use Rattle.sign_keys.specs.Keys.{IsOfOneKey, IsPrepared, index_count, next_of, secret_of, signature_length};
 ghost use Rattle.epoch_store.specs.Store.{IsSettled, LeavesEither, LeavesState};
 ghost use Rattle.epoch_store.specs.Asked.{put_calls};
 ghost use Rattle.signer.specs.declared.SignFault.TheVariants.{OutOfMemory};
@@ -20,20 +17,21 @@ ghost use Rattle.signer.specs.Signing.{SignerState, stored_after as stored_after
 ghost use Rattle.signer.specs.Lives.{Spent, IsLiving, EndsNow};
 ghost use Rattle.signer.specs.Signs.{Signs, MakesCalls, MakesFrom};
 
+pub use sign_keys::SignKey;
+
 pub mod key_lives;
 pub mod laws;
 
 use epoch_store::{Store, Stored};
 use ff_ids::{AccBody, Epoch, Group, Mask, MemberId, NoteBody};
 use fields::Bytes;
-use lms_tree::{Leaves, Tree};
 use ports::Disk;
-use records::{Body, CertBody, Checked, Key, Record, signed_bytes};
+use records::{Body, CertBody, Checked, Record, signed_bytes};
 use std::alloc::Global;
 use std::marker::Model;
 use thiserror::Error;
 
-/// Why nothing was signed. No leaf was spent.
+/// Why nothing was signed. No index was spent.
 #[derive(Clone, Copy, Debug, PartialEq, Eq, Error)]
 pub enum SignFault {
     #[error("out of memory")]
@@ -48,36 +46,35 @@ pub enum SignFault {
     StoreFault,
 }
 
-/// A key with its store. Contracts see the group, the key, the number of the next leaf, what the store keeps, and
+/// A key with its store. Contracts see the group, the key, its next index, what the store keeps, and
 /// whether the store has failed.
 #[derive(Drop)]
 pub struct Signer {
     group: Group,
-    tree: Tree,
-    leaves: Leaves,
+    key: SignKey,
     store: Store,
     closed: bool,
 }
 
 impl Model for Signer {
     ghost use Rattle.std.specs.Prelude.{◌≡◌, ◌≤◌, false};
-    ghost use Rattle.lms_tree.specs.Leaves.{index_count};
+    ghost use Rattle.sign_keys.specs.Keys.{IsOfOneKey, index_count, next_of, secret_of};
     ghost use Rattle.signer.specs.Signing.{SignerState};
 
     ghost Value = { SignerState };
 
     ghost view = { λ s. record {
       group = s.group;
-      key = s.tree;
-      leaf = s.leaves.next;
+      key = secret_of s.key;
+      leaf = next_of s.key;
       state = s.store.state;
       seat = s.store.seat;
       closed = s.closed;
     } };
 
-    ghost invariant = { λ s. (s.store.failed ≡ s.closed) × (s.leaves.key ≡ s.tree)
-        × (s.leaves.next ≡ s.store.state.next)
-        × (s.store.state.next ≤ index_count s.tree) };
+    ghost invariant = { λ s. (s.store.failed ≡ s.closed) × IsOfOneKey s.key
+        × (next_of s.key ≡ s.store.state.next)
+        × (s.store.state.next ≤ index_count (secret_of s.key)) };
 }
 
 /// So many zeros.
@@ -112,31 +109,30 @@ fn stored_after(state: Stored, body: &Body) -> Stored
 }
 
 impl Signer {
-    /// A signer with the tree and the leaves of one key and its store, on which no put has failed. The leaves are
-    /// not past the store's next index, and skip to it; the key has that many indexes.
-    pub fn open(group: Group, tree: Tree, leaves: Leaves, store: Store) -> Signer
-        requires key { leaves.key ≡ tree }
+    /// A signer with a key and its store, on which no put has failed. The key is not past the store's next index, and
+    /// skips to it; it has that many indexes.
+    pub fn open(group: Group, key: SignKey, store: Store) -> Signer
+        requires key { IsOfOneKey key }
         requires runs { store.failed ≡ false }
-        requires behind { leaves.next ≤ store.state.next }
-        requires within { store.state.next ≤ index_count tree }
+        requires behind { next_of key ≤ store.state.next }
+        requires within { store.state.next ≤ index_count (secret_of key) }
         ensures begins { (tag before : List ℕ) (spent : List Spent) (moments : List Moment)
             → IsSettled tag store.state store.seat moments
             → EndsNow tag before spent moments → IsLiving tag before spent result moments }
         ensures value { result ≡ record {
           group = group;
-          key = tree;
+          key = secret_of key;
           leaf = store.state.next;
           state = store.state;
           seat = store.seat;
           closed = false;
         } }
     {
-        let mut leaves = leaves;
-        leaves.skip_to(store.state().next);
+        let mut key = key;
+        key.skip_to(store.state().next);
         Signer {
             group,
-            tree,
-            leaves,
+            key,
             store,
             closed: false,
         }
@@ -153,9 +149,11 @@ impl Signer {
     /// bit at or above `MAX_RINGS`.
     ///
     /// The disk is the one on which the store was opened, and since then only this signer's calls have changed
-    /// the file. Takes its memory first, puts the next index, and only then takes and spends the leaf. `Closed`
-    /// exactly where an earlier call answered `StoreFault`, else `Exhausted` exactly where no leaf is left; after
-    /// these, and after want of memory, nothing has changed.
+    /// the file. Takes the signature's memory first, and, of a key of two levels, makes the bottom tree that is due;
+    /// then puts the next index, and only then takes the index and signs. `Closed` exactly where an earlier call
+    /// answered `StoreFault`, else `Exhausted` exactly where no index is left; after these, and after want of memory,
+    /// nothing has changed. A call that makes a bottom tree takes as long as its leaves do, and its memory may be
+    /// refused where neither of the two is answered.
     pub fn sign_note<D: Disk>(
         &mut self,
         alloc: Global,
@@ -221,8 +219,7 @@ impl Signer {
         self.sign_body(alloc, disk, body)
     }
 
-    /// Takes memory, puts the next index, and then spends the leaf.
-    #[tactic(auto, unfolding(lms_tree::specs::Lms::public_of))]
+    /// Takes memory, puts the next index, and then signs.
     fn sign_body<D: Disk>(
         &mut self,
         alloc: Global,
@@ -254,18 +251,17 @@ impl Signer {
             → IsSettled tag self.old.state self.old.seat (D.state disk.old).moments
             → LeavesState tag self.new.state (D.state disk.new).moments) }
     {
-        let key = self.tree.public();
-        let length = 8 + key.ots.signature_length() + 32 * key.tree.height();
-        let signature = zeros(alloc, length)?;
+        let signature = zeros(alloc, self.key.signature_length())?;
         if self.closed {
             return Err(SignFault::Closed);
         }
         let state = self.store.state();
-        if state.next == self.tree.index_count() {
+        if state.next == self.key.index_count() {
             return Err(SignFault::Exhausted { next: state.next });
         }
+        make_ready(&mut self.key, alloc)?;
         match self.store.put(disk, stored_after(state, &body)) {
-            Ok(()) => Ok(spend_leaf(&self.tree, &mut self.leaves, &self.group, body, signature)),
+            Ok(()) => Ok(sign_next(&mut self.key, &self.group, body, signature)),
             Err(_) => {
                 self.closed = true;
                 Err(SignFault::StoreFault)
@@ -274,27 +270,39 @@ impl Signer {
     }
 }
 
-/// Takes the next leaf, which there is, and signs the body with it.
-fn spend_leaf(
-    tree: &Tree,
-    leaves: &mut Leaves,
-    group: &Group,
-    body: Body,
-    mut signature: Vec<u8>,
-) -> Checked
-    requires key { leaves.old.key ≡ tree.now }
-    requires left { leaves.old.next < index_count tree.now }
-    requires port { HasPort body }
-    requires long { length signature.items ≡ signature_length tree.now.tree tree.now.ots }
-    ensures signed { result ≡ signed_by group.now tree.now leaves.old.next body }
-    ensures taken { leaves.new ≡ record leaves.old { next = leaves.old.next + 1 } }
+/// Makes ready what the next index, which there is, signs with.
+fn make_ready(key: &mut SignKey, alloc: Global) -> Result<(), SignFault>
+    requires one { IsOfOneKey key.old }
+    requires left { next_of key.old < index_count (secret_of key.old) }
+    ensures memory { IfErr result (λ e. e ≡ OutOfMemory) }
+    ensures ready { OnOk result (IsPrepared key.new) }
+    ensures secret { secret_of key.new ≡ secret_of key.old }
+    ensures next { next_of key.new ≡ next_of key.old }
+    ensures one { IsOfOneKey key.new }
 {
-    let leaf = leaves.take().unwrap();
+    match key.prepare(alloc) {
+        Ok(()) => Ok(()),
+        Err(_) => Err(SignFault::OutOfMemory),
+    }
+}
+
+/// Takes the next index, which is ready, and signs the body with it.
+fn sign_next(key: &mut SignKey, group: &Group, body: Body, mut signature: Vec<u8>) -> Checked
+    requires one { IsOfOneKey key.old }
+    requires left { next_of key.old < index_count (secret_of key.old) }
+    requires ready { IsPrepared key.old }
+    requires port { HasPort body }
+    requires long { length signature.items ≡ signature_length (secret_of key.old) }
+    ensures signed { result ≡ signed_by group.now (secret_of key.old) (next_of key.old) body }
+    ensures secret { secret_of key.new ≡ secret_of key.old }
+    ensures next { next_of key.new ≡ next_of key.old + 1 }
+    ensures one { IsOfOneKey key.new }
+{
     let signed = signed_bytes(group, &body);
-    tree.sign(leaf, signed.as_slice(), &mut signature);
+    key.sign_next(signed.as_slice(), &mut signature);
     let rec = Record {
         body,
         signature: Bytes::from_vec(signature),
     };
-    Checked::from_signed(group, &Key::Lms(tree.public()), rec)
+    Checked::from_signed(group, &key.public(), rec)
 }

@@ -1,3 +1,4 @@
+use Rattle.signer.proofs.StepLemmas.{top_of}
 use Rattle.signer.proofs.LivingLemmas.{lives_on, any_life}
 use Rattle.signer.proofs.Signer.sign.Goals as goal
 
@@ -10,6 +11,7 @@ returns g c =
       faults = done.faults;
       answers = done.answers;
       signed = done.signed;
+      top = top_of c.args.self.now c.args.body c.sign_body.result done.answers done.signed;
       after = done.after;
       calls = done.calls;
       follows = done.follows;
