@@ -8,10 +8,12 @@ use Rattle.line_text.specs.Words.{parts}
 use Rattle.line_text.proofs.FrameLemmas.{parts-joined}
 use Rattle.ff_ids.specs.declared.AccBody.{AccBody}
 use Rattle.ff_ids.specs.declared.NoteBody.{NoteBody}
+use Rattle.ff_ids.specs.Keys.{listed}
+use Rattle.ff_ids.specs.declared.KeyBytes.{KeyBytes}
 use Rattle.ff_ids.specs.declared.Fault.{Fault}
 use Rattle.ff_ids.specs.declared.Fault.TheVariants as faults
 use Rattle.records.specs.declared.keys.Key.{Key}
-use Rattle.records.specs.Keys.{key_bytes}
+use Rattle.records.specs.Keys.{written}
 use Rattle.records.specs.Spelling.{IsNote}
 use Rattle.records.specs.declared.CertBody.{CertBody}
 use Rattle.records.specs.declared.Body.{Body}
@@ -143,7 +145,7 @@ fault_read m fault_kind.AlreadyMember all t s y head e = read_as exact_nothing (
 fault_read m fault_kind.UnknownMember all t s y head e = read_as exact_nothing (λ (_ : Unit {0}). faults.UnknownMember) fault_words (IsFault m) (codes "unknown-member") (λ x. refl) (λ x g. tt) all t s y head e
 fault_read m fault_kind.BadMask all t s y head e = read_as exact_nothing (λ (_ : Unit {0}). faults.BadMask) fault_words (IsFault m) (codes "bad-mask") (λ x. refl) (λ x g. tt) all t s y head e
 fault_read m fault_kind.Known all t s y head e = read_as exact_nothing (λ (_ : Unit {0}). faults.Known) fault_words (IsFault m) (codes "known") (λ x. refl) (λ x g. tt) all t s y head e
-fault_read m fault_kind.OtherCertificate all t s y head e = read_as (exact_both exact_port exact_key) (λ (p : ℕ × Key). faults.OtherCertificate p.0 (key_bytes p.1)) fault_words (IsFault m) (codes "other-certificate") (λ x. refl) (λ x g. (g.0, record { key = x.1; is_key = g.1; same = refl })) all t s y head e
+fault_read m fault_kind.OtherCertificate all t s y head e = read_as (exact_both exact_port exact_key) (λ (p : ℕ × Key). faults.OtherCertificate p.0 (written p.1)) fault_words (IsFault m) (codes "other-certificate") (λ x. refl) (λ x g. (g.0, record { key = x.1; is_key = g.1; same = refl })) all t s y head e
 fault_read m fault_kind.Older all t s y head e = read_as (exact_both exact_epoch exact_mask) (λ (p : ℕ × ℕ). faults.Older p.0 (record { 0 = p.1 })) fault_words (IsFault m) (codes "older") (λ x. refl) (λ x g. g) all t s y head e
 fault_read m fault_kind.SelfAccusation all t s y head e = read_as exact_nothing (λ (_ : Unit {0}). faults.SelfAccusation) fault_words (IsFault m) (codes "self-accusation") (λ x. refl) (λ x g. tt) all t s y head e
 fault_read m fault_kind.BadRing all t s y head e = read_as exact_nothing (λ (_ : Unit {0}). faults.BadRing) fault_words (IsFault m) (codes "bad-ring") (λ x. refl) (λ x g. tt) all t s y head e
@@ -165,13 +167,13 @@ ahead_same m stored seen one two =
 abbrev done_fault : Fault → Reading → Result (Fault × Reading) ℕ
 done_fault f s = Ok (f, s)
 
-other_back : (m port : ℕ) (bytes : List ℕ) (k : Key) → IsPort port → IsKey k → bytes ≡ key_bytes k → (r : Reading) (rest : List (List ℕ)) → r.words ≡ codes "other-certificate" ∷ decimal port ∷ encode_lower bytes ∷ rest
+other_back : (m port : ℕ) (bytes : KeyBytes) (k : Key) → IsPort port → IsKey k → bytes ≡ written k → (r : Reading) (rest : List (List ℕ)) → r.words ≡ codes "other-certificate" ∷ decimal port ∷ encode_lower (listed bytes) ∷ rest
     → (s : Reading) × (fault_at m r ≡ Ok (faults.OtherCertificate port bytes, s)) × (s.words ≡ rest)
 unfolding fault_at
 other_back m port bytes k good is_key same r rest left =
-    let a = back_as (among fault_word every_fault_kind) (fault_behind m) fault_kind.OtherCertificate (codes "other-certificate") (exact_both exact_port exact_key) (λ (p : ℕ × Key). faults.OtherCertificate p.0 (key_bytes p.1)) (λ t. refl) refl (port, k) (good, is_key) r rest
-    (left ∙ ap (λ (b : List ℕ). codes "other-certificate" ∷ decimal port ∷ encode_lower b ∷ rest) same) in
-    (a.0, a.1 ∙ ap (λ (b : List ℕ). done_fault (faults.OtherCertificate port b) a.0) (sym same), a.2)
+    let a = back_as (among fault_word every_fault_kind) (fault_behind m) fault_kind.OtherCertificate (codes "other-certificate") (exact_both exact_port exact_key) (λ (p : ℕ × Key). faults.OtherCertificate p.0 (written p.1)) (λ t. refl) refl (port, k) (good, is_key) r rest
+    (left ∙ ap (λ (b : KeyBytes). codes "other-certificate" ∷ decimal port ∷ encode_lower (listed b) ∷ rest) same) in
+    (a.0, a.1 ∙ ap (λ (b : KeyBytes). done_fault (faults.OtherCertificate port b) a.0) (sym same), a.2)
 
 ahead_back : (m : ℕ) (stored seen : NoteBody) → IsNoteOf m stored → IsNoteOf m seen → (r : Reading) (rest : List (List ℕ)) → r.words ≡ fault_words (faults.OwnAhead stored seen) ++ rest
     → (s : Reading) × (fault_at m r ≡ Ok (faults.OwnAhead stored seen, s)) × (s.words ≡ rest)

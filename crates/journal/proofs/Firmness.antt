@@ -19,7 +19,7 @@ use Rattle.lms_tree.specs.declared.kind.TreeKind.TheVariants.{H5}
 use Rattle.records.specs.declared.keys.Key.{Key}
 use Rattle.records.specs.declared.keys.Key.TheVariants as keys
 use Rattle.lms_tree.specs.Lms as lms
-use Rattle.records.specs.Keys.{key_bytes}
+use Rattle.records.specs.Keys.{key_bytes, written}
 use Rattle.records.specs.Spelling.{IsNote}
 use Rattle.records.specs.declared.CertBody.{CertBody}
 use Rattle.records.specs.declared.Body.{Body}
@@ -148,7 +148,7 @@ fault_branch m fault_kind.AlreadyMember = branch firm_nothing (λ (_ : Unit {0})
 fault_branch m fault_kind.UnknownMember = branch firm_nothing (λ (_ : Unit {0}). faults.UnknownMember) fault_words (IsFault m) (codes "unknown-member") (λ x. refl) (λ x g. tt)
 fault_branch m fault_kind.BadMask = branch firm_nothing (λ (_ : Unit {0}). faults.BadMask) fault_words (IsFault m) (codes "bad-mask") (λ x. refl) (λ x g. tt)
 fault_branch m fault_kind.Known = branch firm_nothing (λ (_ : Unit {0}). faults.Known) fault_words (IsFault m) (codes "known") (λ x. refl) (λ x g. tt)
-fault_branch m fault_kind.OtherCertificate = branch (firm_both firm_port firm_key) (λ (p : ℕ × Key). faults.OtherCertificate p.0 (key_bytes p.1)) fault_words (IsFault m) (codes "other-certificate") (λ x. refl) (λ x g. (g.0, record { key = x.1; is_key = g.1; same = refl }))
+fault_branch m fault_kind.OtherCertificate = branch (firm_both firm_port firm_key) (λ (p : ℕ × Key). faults.OtherCertificate p.0 (written p.1)) fault_words (IsFault m) (codes "other-certificate") (λ x. refl) (λ x g. (g.0, record { key = x.1; is_key = g.1; same = refl }))
 fault_branch m fault_kind.Older = branch (firm_both firm_epoch firm_mask) (λ (p : ℕ × ℕ). faults.Older p.0 (record { 0 = p.1 })) fault_words (IsFault m) (codes "older") (λ x. refl) (λ x g. g)
 fault_branch m fault_kind.SelfAccusation = branch firm_nothing (λ (_ : Unit {0}). faults.SelfAccusation) fault_words (IsFault m) (codes "self-accusation") (λ x. refl) (λ x g. tt)
 fault_branch m fault_kind.BadRing = branch firm_nothing (λ (_ : Unit {0}). faults.BadRing) fault_words (IsFault m) (codes "bad-ring") (λ x. refl) (λ x g. tt)

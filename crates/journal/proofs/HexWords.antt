@@ -1,14 +1,17 @@
 -- Words of hexadecimal digits in lower case.
 use Rattle.std.proofs.Common.{◌≡◌, ℕ, zero, suc, ◌+◌, ◌*◌, ◌/◌, ◌%◌, ◌<◌, inl, inr, Bool, true, false, cond, ◌&&◌, eqb, List, [], ◌∷◌, length, Option, Some, None, Result, Ok, Err, refl, sym, ap, subst, ◌∙◌, arith}
-use Rattle.std.specs.Prelude.{not, ◌||◌, nat_lt, slice_index}
+use Rattle.std.specs.Prelude.{is_ok, not, ◌||◌, nat_lt, slice_index}
 use Rattle.std.specs.List.{list_all}
-use Rattle.std.proofs.lemmas.Bool.{and_parts, cases_lt, eqb-true, eq-eqb, ne_eqb, ltb-true, lt-ltb}
+use Rattle.std.proofs.lemmas.Bool.{and_parts, cases_lt, eqb-true, eq-eqb, ltb-true, lt-ltb}
 use Rattle.hex.specs.Hex.{◌>>=◌, IsBytes, decode_of, decode_pairs, decode_sized, digit_or_error, encode_lower, encode_with, hex_digit_value, is_hex_digit, lower_digits, pair_value, value_at}
 use Rattle.hex.specs.declared.error.FromHexError.{FromHexError}
 use Rattle.hex.proofs.HexLemmas.{decode_of-even, decode_of-encode_lower, decode_of-ok, decode_sized-twice, length-encode_with}
 use Rattle.line_text.proofs.HexWords.{Spells, is_spelled as decodes_as, spells}
-use Rattle.lms_tree.specs.Lms.{key_in}
-use Rattle.journal.specs.Words.{is_lower_digit, is_spelled, bytes_of, bytes_in, bytes_or_none, key_of, key_from}
+use Rattle.records.specs.declared.keys.Key.{Key}
+use Rattle.records.specs.declared.keys.KeyFault.{KeyFault}
+use Rattle.records.specs.Keys.{key_in}
+use Rattle.records.proofs.KeyParts.{key-long}
+use Rattle.journal.specs.Words.{is_lower_digit, is_spelled, bytes_of, bytes_in, bytes_or_none, key_of, key_from, key_or_none}
 
 -- ---- tables
 
@@ -171,14 +174,21 @@ bytes_again bytes some h =
 pub decodes_in : (w bytes : List ℕ) → is_spelled w ≡ true → decode_of w ≡ Ok bytes → bytes ≡ bytes_in w
 decodes_in w bytes h e = rw (h, e) refl
 
-unkeyed : (o : Option (List ℕ)) (bytes : List ℕ) → o ≡ Some bytes → (length bytes ≡ 56 → ⊥) → None ≡ key_from o
-unfolding key_in
-unkeyed o bytes e other = rw (e, ne_eqb (length bytes) 56 other) refl
+no_key_read : (r : Result Key KeyFault) → is_ok r ≡ false → None ≡ key_or_none r
+no_key_read (Ok key) e = absurd cc
+no_key_read (Err fault) e = refl
 
--- a word of another length is no key's
-pub no_key : (w : List ℕ) (fault : FromHexError) → is_spelled w ≡ true → decode_sized w 56 ≡ Err fault → None ≡ key_of w
-no_key w fault h e =
+-- A word of another length is no key's.
+pub no_key : (w : List ℕ) → is_spelled w ≡ true → (length w ≡ 112 → ⊥) → (length w ≡ 120 → ⊥) → None ≡ key_of w
+no_key w h one two =
     let s = decoded w h in
     let twice = (decode_of-ok w s.bytes s.decoded).2 in
-    unkeyed (bytes_of w) s.bytes (decodes_to w s.bytes h s.decoded) (λ same.
-    let sized = decode_sized-twice w 56 (omega (arith, twice, same)) in cc (sized, e, s.decoded))
+    let none = key-long s.bytes (λ same. one (omega (arith, twice, same))) (λ same. two (omega (arith, twice, same))) in
+    no_key_read (key_in s.bytes) none ∙ ap key_from (sym (decodes_to w s.bytes h s.decoded))
+
+-- The digits of so many bytes are decoded.
+pub is_decoded : (w : List ℕ) (n : ℕ) (fault : FromHexError) → is_spelled w ≡ true → length w ≡ 2 * n → decode_sized w n ≡ Err fault → None ≡ key_of w
+is_decoded w n fault h long e =
+    let s = decoded w h in
+    let sized = decode_sized-twice w n (omega (arith, long)) in
+    absurd cc (sized, e, s.decoded)

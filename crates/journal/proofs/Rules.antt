@@ -6,12 +6,12 @@ use Rattle.std.proofs.lemmas.Bool.{and_parts, false_from_ne_true, false≢true}
 use Rattle.std.proofs.lemmas.Slice.Eq.{bytes_eq-Decides}
 use Rattle.ff_ids.specs.declared.TheConstants.{LAST_MEMBER}
 use Rattle.hex.specs.Hex.{IsBytes, encode_lower}
-use Rattle.lms_tree.specs.declared.kind.KeyFault.{KeyFault}
-use Rattle.lms_tree.specs.Lms.{key_bytes as lms_bytes}
+use Rattle.records.specs.declared.keys.KeyFault.{KeyFault}
 use Rattle.records.specs.declared.keys.Key.{Key}
 use Rattle.records.specs.declared.keys.Key.TheVariants as keys
+use Rattle.records.specs.Keys as record_keys
 use Rattle.records.specs.Keys.{key_bytes, key_in}
-use Rattle.records.proofs.KeyParts.{key-again, key-are}
+use Rattle.records.proofs.KeyParts.{key-again, key-are, key-length}
 use Rattle.journal.specs.Texts.{answer_text, flag_text}
 use Rattle.journal.specs.Spelling.{IsKey, IsMonitor}
 use Rattle.journal.specs.Words.{bytes_of, is_literal, key_from, key_of, key_or_none, monitor_of, number, number_of, number_within, one_of, some_monitor, token_at}
@@ -98,9 +98,9 @@ key_found (Some bytes) key e = (bytes, refl, key_kept (key_in bytes) key e)
 key_found None key e = absurd cc
 
 key_back : (s : List ℕ) (key : Key) → IsBytes s → key_in s ≡ Ok key → (s ≡ key_bytes key) × IsKey key
-key_back s (keys.Lms key) below e =
-    let are = key-are s (keys.Lms key) below e in
-    (are.spelled, record { parts = record { id_long = are.id; root_long = are.root }; bytes = subst IsBytes are.spelled below })
+key_back s key below e =
+    let are = key-are s key below e in
+    (are.spelled, record { parts = are.parts; bytes = subst IsBytes are.spelled below })
 
 key_is : (word : List ℕ) (key : Key) → key_of word ≡ Some key → (word ≡ encode_lower (key_bytes key)) × IsKey key
 key_is word key e =
@@ -109,11 +109,14 @@ key_is word key e =
     let k = key_back f.0 key b.2 f.2 in
     (b.0 ∙ ap encode_lower k.0, k.1)
 
+some_bytes : (key : Key) → record_keys.IsKey key → 0 < length (key_bytes key)
+some_bytes (keys.Lms key) good = omega (arith, key-length (keys.Lms key) good)
+some_bytes (keys.Hss key) good = omega (arith, key-length (keys.Hss key) good)
+
 key_again : (key : Key) → IsKey key → key_of (encode_lower (key_bytes key)) ≡ Some key
-unfolding lms_bytes
-key_again (keys.Lms key) good =
-    ap key_from (bytes_again (lms_bytes key) (omega arith) good.bytes)
-    ∙ ap key_or_none (key-again (lms_bytes key) (keys.Lms key) (record { spelled = refl; id = good.parts.id_long; root = good.parts.root_long }))
+key_again key good =
+    ap key_from (bytes_again (key_bytes key) (some_bytes key good.parts) good.bytes)
+    ∙ ap key_or_none (key-again (key_bytes key) key (record { spelled = refl; parts = good.parts }))
 
 pub exact_key : Exact (token_at key_of) (λ k. encode_lower (key_bytes k) ∷ []) IsKey
 exact_key = exact_token key_of (λ k. encode_lower (key_bytes k)) IsKey key_is key_again

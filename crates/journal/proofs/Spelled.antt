@@ -10,12 +10,15 @@ use Rattle.hex.specs.Hex.{IsBytes, encode_lower}
 use Rattle.hex.proofs.HexLemmas.{length-encode_with}
 use Rattle.hex.specs.Hex.{lower_digits}
 use Rattle.line_text.specs.Words.{is_printable, is_word}
+use Rattle.ff_ids.specs.Keys.{listed}
+use Rattle.ff_ids.specs.declared.KeyBytes.{KeyBytes}
 use Rattle.ff_ids.specs.Texts.{accusation_text, fault_text, monitor_text}
 use Rattle.ff_ids.specs.declared.AccBody.{AccBody}
 use Rattle.ff_ids.specs.declared.NoteBody.{NoteBody}
 use Rattle.ff_ids.specs.declared.Fault.{Fault}
 use Rattle.ff_ids.specs.declared.Fault.TheVariants as faults
 use Rattle.lms_tree.specs.Lms as lms
+use Rattle.hss.specs.Hss as hss
 use Rattle.records.specs.declared.keys.Key.{Key}
 use Rattle.records.specs.declared.keys.Key.TheVariants as keys
 use Rattle.records.specs.Keys.{key_bytes}
@@ -54,7 +57,7 @@ fault_words faults.AlreadyMember = codes "already-member" ∷ []
 fault_words faults.UnknownMember = codes "unknown-member" ∷ []
 fault_words faults.BadMask = codes "bad-mask" ∷ []
 fault_words faults.Known = codes "known" ∷ []
-fault_words (faults.OtherCertificate port key) = codes "other-certificate" ∷ decimal port ∷ encode_lower key ∷ []
+fault_words (faults.OtherCertificate port key) = codes "other-certificate" ∷ decimal port ∷ encode_lower (listed key) ∷ []
 fault_words (faults.Older epoch mask) = codes "older" ∷ decimal epoch ∷ decimal mask.0 ∷ []
 fault_words faults.SelfAccusation = codes "self-accusation" ∷ []
 fault_words faults.BadRing = codes "bad-ring" ∷ []
@@ -161,7 +164,7 @@ fault_joined faults.AlreadyMember = refl
 fault_joined faults.UnknownMember = refl
 fault_joined faults.BadMask = refl
 fault_joined faults.Known = refl
-fault_joined (faults.OtherCertificate port key) = two_in_a_row (codes "other-certificate ") (decimal port) (encode_lower key)
+fault_joined (faults.OtherCertificate port key) = two_in_a_row (codes "other-certificate ") (decimal port) (encode_lower (listed key))
 fault_joined (faults.Older epoch mask) = two_in_a_row (codes "older ") (decimal epoch) (decimal mask.0)
 fault_joined faults.SelfAccusation = refl
 fault_joined faults.BadRing = refl
@@ -285,9 +288,10 @@ bytes_word b some h =
     let len = length-encode_with lower_digits b in
     word_of (encode_lower b) (omega (arith, len, some)) (lowers_printable (encode_lower b) (encoded_lower b h))
 
-some_key : (k : Key) → 0 < length (key_bytes k)
-unfolding lms.key_bytes
+pub some_key : (k : Key) → 0 < length (key_bytes k)
+unfolding lms.key_bytes hss.key_bytes
 some_key (keys.Lms k) = omega arith
+some_key (keys.Hss k) = omega arith
 
 key_word : (k : Key) → IsKey k → is_word (encode_lower (key_bytes k)) ≡ true
 key_word k good = bytes_word (key_bytes k) (some_key k) good.bytes
@@ -328,7 +332,7 @@ worded_fault m faults.Known good = record { all = refl }
 worded_fault m (faults.OtherCertificate port key) good =
     with_word (codes "other-certificate") _ refl
     (with_word (decimal port) _ (number_word port (omega (arith, good.0.fits)))
-    (with_word (encode_lower key) [] (ap (λ (b : List ℕ). is_word (encode_lower b)) good.1.same ∙ key_word good.1.key good.1.is_key) no_words))
+    (with_word (encode_lower (listed key)) [] (ap (λ (b : KeyBytes). is_word (encode_lower (listed b))) good.1.same ∙ key_word good.1.key good.1.is_key) no_words))
 worded_fault m (faults.Older epoch mask) good =
     with_word (codes "older") _ refl (with_word (decimal epoch) _ (number_word epoch good.0.fits) (with_word (decimal mask.0) [] (number_word mask.0 (omega (arith, good.1))) no_words))
 worded_fault m faults.SelfAccusation good = record { all = refl }

@@ -5,7 +5,7 @@ use Rattle.ff_ids.specs.declared.NoteBody.{NoteBody}
 use Rattle.ff_ids.specs.declared.AccBody.{AccBody}
 use Rattle.ff_ids.specs.declared.Fault.{Fault}
 use Rattle.ff_ids.specs.declared.Fault.TheVariants as faults
-use Rattle.records.specs.Keys.{key_bytes}
+use Rattle.records.specs.Keys.{written}
 use Rattle.records.specs.declared.CertBody.{CertBody}
 use Rattle.records.specs.declared.Body.{Body}
 use Rattle.records.specs.declared.Body.TheVariants as bodies
@@ -90,7 +90,7 @@ own_ahead member p =
     (record { member = member; epoch = p.1.1.0; mask = record { 0 = p.1.1.1 } })
 
 abbrev pub other_certificate_at : Step Fault
-other_certificate_at = made (λ p. faults.OtherCertificate p.0 (key_bytes p.1)) (both port_at (token_at key_of))
+other_certificate_at = made (λ p. faults.OtherCertificate p.0 (written p.1)) (both port_at (token_at key_of))
 
 abbrev pub older_at : Step Fault
 older_at = made (λ p. faults.Older p.0 (record { 0 = p.1 })) (both epoch_at mask_at)

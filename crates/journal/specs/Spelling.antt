@@ -4,11 +4,12 @@ use Rattle.ff_ids.specs.declared.TheConstants.{MEMBERS, MASK_BITS, PAGES}
 use Rattle.hex.specs.Hex.{IsBytes}
 use Rattle.ff_ids.specs.declared.NoteBody.{NoteBody}
 use Rattle.ff_ids.specs.declared.AccBody.{AccBody}
+use Rattle.ff_ids.specs.declared.KeyBytes.{KeyBytes}
 use Rattle.ff_ids.specs.declared.Fault.{Fault}
 use Rattle.ff_ids.specs.declared.Fault.TheVariants as faults
 use Rattle.records.specs.declared.keys.Key.{Key}
 use Rattle.records.specs.Keys as record_keys
-use Rattle.records.specs.Keys.{key_bytes}
+use Rattle.records.specs.Keys.{key_bytes, written}
 use Rattle.records.specs.Spelling as records
 use Rattle.records.specs.declared.CertBody.{CertBody}
 use Rattle.records.specs.declared.Body.{Body}
@@ -47,10 +48,10 @@ IsBody (bodies.Note n) = records.IsNote n
 IsBody (bodies.Accusation a) = IsAccusation a
 
 -- the bytes are a key's
-pub record IsKeyOf (bytes : List ℕ) : Type 0 where
+pub record IsKeyOf (bytes : KeyBytes) : Type 0 where
   pub key : Key
   pub is_key : IsKey key
-  pub same : bytes ≡ key_bytes key
+  pub same : bytes ≡ written key
 
 -- a note of this member
 pub record IsNoteOf (m : ℕ) (n : NoteBody) : Type 0 where

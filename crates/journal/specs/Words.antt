@@ -9,7 +9,7 @@ use Rattle.ff_ids.specs.declared.TheConstants.{LAST_MEMBER}
 use Rattle.hex.specs.Hex.{decode_of}
 use Rattle.hex.specs.declared.error.FromHexError.{FromHexError}
 use Rattle.line_text.specs.Words.{parts}
-use Rattle.lms_tree.specs.declared.kind.KeyFault.{KeyFault}
+use Rattle.records.specs.declared.keys.KeyFault.{KeyFault}
 use Rattle.records.specs.declared.keys.Key.{Key}
 use Rattle.records.specs.Keys.{key_in}
 use Rattle.journal.specs.declared.words.Misread.{Misread}
@@ -148,7 +148,7 @@ abbrev pub key_from : Option (List ℕ) → Option Key
 key_from None = None
 key_from (Some bytes) = key_or_none (key_in bytes)
 
--- the key of whose 56 bytes the word is the digits
+-- the key of whose bytes the word is the digits: of one level where they are 112, and of two where they are 120
 abbrev pub key_of : List ℕ → Option Key
 key_of word = key_from (bytes_of word)
 

@@ -1,6 +1,6 @@
 // Words of hexadecimal digits, in lower case.
 
-ghost use Rattle.std.specs.Prelude.{◌≡◌, IfOk};
+ghost use Rattle.std.specs.Prelude.{◌≡◌, ◌*◌, IfOk, IsTrue, length};
 ghost use Rattle.std.specs.List.{list_all};
 ghost use Rattle.journal.specs.Words.{Reads, bytes_of, is_lower_digit, is_spelled, key_of, token_at};
 ghost use Rattle.journal.specs.Turns.{bytes_or_dash, or_no_bytes};
@@ -97,19 +97,35 @@ pub fn digits_or_dash<'a>(words: &mut Words<'a>) -> Result<Option<HexWord<'a>>, 
     }
 }
 
+/// The key in the `N` bytes of which the word is the digits.
+fn key_of_length<const N: usize>(word: &[u8]) -> Option<Key>
+    requires spelled { IsTrue (is_spelled word.now) }
+    requires long { length word.now ≡ 2 * N }
+    ensures { result ≡ key_of word.now }
+{
+    match <[u8; N] as FromHex>::from_hex(word) {
+        Ok(bytes) => Key::read(&bytes).ok(),
+        Err(_) => None,
+    }
+}
+
+/// The key of whose bytes the word is the digits: 112 for one level, 120 for two.
 fn key_of(word: &[u8]) -> Option<Key>
     ensures { result ≡ key_of word.now }
 {
     if !is_spelled(word) {
         return None;
     }
-    match <[u8; 56] as FromHex>::from_hex(word) {
-        Ok(bytes) => Key::read(&bytes).ok(),
-        Err(_) => None,
+    if word.len() == 112 {
+        return key_of_length::<56>(word);
     }
+    if word.len() == 120 {
+        return key_of_length::<60>(word);
+    }
+    None
 }
 
-/// The digits of a key's 56 bytes.
+/// The digits of a key's 56 or 60 bytes.
 pub fn key(words: &mut Words) -> Result<Key, Misread>
     ensures { Reads (λ k. k) result words.new (token_at key_of words.old) }
 {

@@ -99,9 +99,7 @@ fn other_certificate(words: &mut Words) -> Result<Fault, Misread>
     ensures { Reads (λ f. f) result words.new (other_certificate_at words.old) }
 {
     let port = port(words)?;
-    let key = match key(words)? {
-        Key::Lms(key) => key.write(),
-    };
+    let key = key(words)?.write();
     Ok(Fault::OtherCertificate { port, key })
 }
 

@@ -70,7 +70,7 @@ pub fn add_fault(fault: &Fault, out: &mut Vec<u8>) -> Result<(), NoMemory>
         Fault::NotMonitor { monitor } => add_not_monitor(*monitor, out),
         Fault::Standing => write_bytes(b"standing", out),
         Fault::BadSignature => write_bytes(b"bad-signature", out),
-        Fault::OtherCertificate { port, key } => add_other_certificate(*port, key, out),
+        Fault::OtherCertificate { port, key } => add_other_certificate(*port, key.as_slice(), out),
         Fault::OwnAhead { stored, seen } => add_own_ahead(stored, seen, out),
     }
 }

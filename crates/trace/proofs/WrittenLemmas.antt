@@ -9,6 +9,7 @@ use Rattle.ff_ids.specs.declared.AccBody.{AccBody}
 use Rattle.ff_ids.specs.declared.Fault.{Fault}
 use Rattle.ff_ids.specs.declared.Fault.TheVariants as faults
 use Rattle.ff_ids.specs.Faults.{accusation_fault, note_fault}
+use Rattle.ff_ids.specs.Keys.{listed}
 use Rattle.ff_ids.specs.Texts.{accusation_text, fault_text, monitor_text}
 use Rattle.ff_ids.specs.Views.{is_member, monitor, view}
 use Rattle.hex.specs.Hex.{encode_lower}
@@ -65,7 +66,7 @@ clear-fault (faults.NotMonitor m) = clear-append (codes "not-monitor ") (monitor
 clear-fault faults.Standing = refl
 clear-fault faults.BadSignature = refl
 clear-fault (faults.OtherCertificate port key) =
-    clear-append ((codes "other-certificate " ++ decimal port) ++ codes " ") (encode_lower key) (clear-append (codes "other-certificate " ++ decimal port) (codes " ") (clear-append (codes "other-certificate ") (decimal port) refl (clear-decimal port)) refl) (clear-hex key)
+    clear-append ((codes "other-certificate " ++ decimal port) ++ codes " ") (encode_lower (listed key)) (clear-append (codes "other-certificate " ++ decimal port) (codes " ") (clear-append (codes "other-certificate ") (decimal port) refl (clear-decimal port)) refl) (clear-hex (listed key))
 clear-fault (faults.OwnAhead stored seen) =
     let one = codes "own-ahead " ++ decimal stored.epoch in
     let two = (one ++ codes " ") ++ decimal stored.mask.0 in

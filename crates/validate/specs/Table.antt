@@ -1,6 +1,6 @@
 -- The ordered table of faults of signed records: what is refused without a look at the signature, then the
 -- signature, then a note of the observer itself that it doesn't know.
-use Rattle.std.specs.Prelude.{◌≡◌, ℕ, Bool, ◌==◌, ◌&&◌, if◌then◌else◌, Option, Some, None, Result, Ok, Err, option_map, bytes_eq}
+use Rattle.std.specs.Prelude.{◌≡◌, ℕ, Bool, false, ◌==◌, ◌&&◌, if◌then◌else◌, Option, Some, None, Result, Ok, Err, option_map, bytes_eq}
 use Rattle.std.specs.Option.{option_or}
 use Rattle.std.specs.Result.{is_ok}
 use Rattle.ff_ids.specs.declared.NoteBody.{NoteBody}
@@ -11,6 +11,7 @@ use Rattle.ff_ids.specs.Notes.{newest}
 use Rattle.ff_ids.specs.Views.{State}
 use Rattle.ff_ids.specs.Faults.{note_fault, accusation_fault}
 use Rattle.membership.specs.Life.{Life, note_fault_in, accusation_fault_in}
+use Rattle.lms_tree.specs.declared.key.PublicKey.{PublicKey}
 use Rattle.lms_ots.specs.Ots as ots
 use Rattle.lms_tree.specs.Kinds.{type_number}
 use Rattle.records.specs.declared.CertBody.{CertBody}
@@ -19,22 +20,28 @@ use Rattle.records.specs.declared.Body.TheVariants.{Certificate, Note, Accusatio
 use Rattle.records.specs.declared.Record.{Record}
 use Rattle.records.specs.declared.keys.Key.{Key}
 use Rattle.records.specs.declared.keys.Key.TheVariants as keys
-use Rattle.records.specs.Keys.{key_bytes, verdict_of}
+use Rattle.records.specs.Keys.{verdict_of, written}
 use Rattle.records.specs.Signing.{signed_bytes, CheckedRecord}
 use Rattle.validate.specs.Certified.{Certificates, certificate_of}
 
 -- ---- the rows
 
-abbrev pub is_same_key : Key → Key → Bool
-is_same_key (keys.Lms a) (keys.Lms b) =
+abbrev pub is_same_lms_key : PublicKey → PublicKey → Bool
+is_same_lms_key a b =
     (type_number a.tree == type_number b.tree) && ((ots.type_number a.ots == ots.type_number b.ots) && (bytes_eq a.id b.id && bytes_eq a.root b.root))
+
+-- Keys of one level are no keys of two.
+abbrev pub is_same_key : Key → Key → Bool
+is_same_key (keys.Lms a) (keys.Lms b) = is_same_lms_key a b
+is_same_key (keys.Hss a) (keys.Hss b) = is_same_lms_key a.top b.top
+is_same_key _ _ = false
 
 abbrev pub is_same_certificate : CertBody → CertBody → Bool
 is_same_certificate a b = (a.member == b.member) && ((a.port == b.port) && is_same_key a.key b.key)
 
 -- This very certificate is kept for the number, or another one, whose port and key these are.
 abbrev pub fault_beside_kept : CertBody → CertBody → Fault
-fault_beside_kept kept c = if is_same_certificate kept c then faults.Known else faults.OtherCertificate kept.port (key_bytes kept.key)
+fault_beside_kept kept c = if is_same_certificate kept c then faults.Known else faults.OtherCertificate kept.port (written kept.key)
 
 abbrev pub certificate_fault : Option CertBody → CertBody → Option Fault
 certificate_fault kept c = option_map (λ k. fault_beside_kept k c) kept

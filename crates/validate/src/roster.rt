@@ -45,7 +45,9 @@ impl Roster {
         requires { certificate_of self.old cert.member ≡ None }
         ensures { self.new ≡ map.insert self.old cert.member cert }
     {
-        self.certificates.set(cert.member, cert);
+        let CertBody { member, port, key } = cert;
+        let cert = CertBody { member, port, key };
+        self.certificates.set(member, cert);
     }
 
     /// The certificate of the member.

@@ -7,7 +7,6 @@ ghost use Rattle.membership.specs.Holds.{Holds};
 ghost use Rattle.membership.specs.Life.{note_fault_in, accusation_fault_in};
 ghost use Rattle.records.specs.declared.Body.TheVariants.{Certificate, Note, Accusation};
 ghost use Rattle.records.specs.Spelling.{HasPort};
-ghost use Rattle.records.specs.Keys.{key_bytes};
 ghost use Rattle.records.specs.declared.keys.Key.TheVariants as keys;
 ghost use Rattle.validate.specs.Certified.{key_of, certificate_of, signing_key};
 ghost use Rattle.validate.specs.Table.{certificate_fault, signature_fault, own_ahead, first_fault, known_by, verifies_in, fault_in, IsCheckOf, IsUnrefused, IsUnrefusedBy};
@@ -19,14 +18,6 @@ use ff_ids::{AccBody, Fault, Group, MemberId, NoteBody};
 use lms_tree::PublicKey;
 use membership::Membership;
 use records::{Body, CertBody, Checked, Key, Record};
-
-fn key_bytes(key: &Key) -> [u8; 56]
-    ensures { result ≡ key_bytes key.now }
-{
-    match key {
-        Key::Lms(key) => key.write(),
-    }
-}
 
 /// What an observer knows when it checks a record.
 #[derive(Clone, Copy)]
@@ -64,7 +55,7 @@ impl<'a> Observer<'a> {
         }
         Some(Fault::OtherCertificate {
             port: kept.port,
-            key: key_bytes(&kept.key),
+            key: kept.key.write(),
         })
     }
 
