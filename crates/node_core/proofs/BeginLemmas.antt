@@ -27,7 +27,7 @@ use Rattle.node_core.specs.Noted.{own_note}
 use Rattle.ff_ids.specs.declared.NoteBody.{NoteBody}
 use Rattle.std.specs.List.{list_any, AllByRecursion}
 use Rattle.lms_tree.specs.declared.key.PublicKey.{PublicKey}
-use Rattle.lms_tree.specs.declared.secret.Secret.{Secret}
+use Rattle.sign_keys.specs.Keys.{KeySecret}
 use Rattle.records.specs.declared.CertBody.{CertBody}
 use Rattle.records.specs.declared.Body.TheVariants.{Certificate, Note}
 use Rattle.signer.specs.Signing.{SignerState, stored_after, next_note}
@@ -108,7 +108,7 @@ stored-node s v c b signer n key state =
       probes = n.probes;
     }
 
-first-is : (s : Setting) (group : Group) (me : ℕ) (authority : PublicKey) (key : Secret) (stored : Stored) → s ≡ setting_of group me authority key
+first-is : (s : Setting) (group : Group) (me : ℕ) (authority : PublicKey) (key : KeySecret) (stored : Stored) → s ≡ setting_of group me authority key
     → next_note stored me (record { 0 = first_mask group.t stored.mask.0 }) ≡ first_note s stored
 first-is s group me authority key stored setting =
     ap (λ (m : ℕ). next_note stored m (record { 0 = first_mask group.t stored.mask.0 })) (sym (setting-me s group me authority key setting))

@@ -5,33 +5,33 @@ use Rattle.std.specs.Cmp.{unsigned_tied}
 use Rattle.std.specs.FinMap as fin
 use Rattle.std.specs.Ordering.{eq_by_cmp, nat_cmp}
 use Rattle.std.proofs.lemmas.Cmp.{nat_cmp_total}
-use Rattle.std.proofs.lemmas.Bool.{and_parts, and_from, cases_Bool}
+use Rattle.std.proofs.lemmas.Bool.{false≢true, and_parts, and_from, cases_Bool}
 use Rattle.std.specs.List.{AllByRecursion, list_any, list_all}
 use Rattle.std.specs.Result.{is_ok}
 use Rattle.ff_ids.specs.declared.TheConstants.{MAX_TOLERANCE}
 use Rattle.ff_ids.specs.declared.Group.{Group}
 use Rattle.lms_tree.specs.declared.key.PublicKey.{PublicKey}
-use Rattle.lms_tree.specs.declared.secret.Secret.{Secret}
 use Rattle.records.specs.declared.CertBody.{CertBody}
 use Rattle.records.specs.declared.Body.{Body}
 use Rattle.records.specs.declared.Body.TheVariants.{Certificate, Note, Accusation}
 use Rattle.records.specs.declared.Record.{Record}
 use Rattle.records.specs.declared.keys.Key.{Key}
 use Rattle.records.specs.declared.keys.Key.TheVariants as keys
-use Rattle.records.specs.Keys.{Verifies, verdict_of}
+use Rattle.records.specs.Keys.{IsKey, Verifies, verdict_of}
 use Rattle.records.specs.Signing.{CheckedRecord, IsChecked, signed_bytes}
+use Rattle.records.specs.Spelling.{IsBody}
 use Rattle.validate.proofs.VerdictLemmas.{good-verdict}
 use Rattle.node_rules.specs.Nodes.{Setting}
 use Rattle.node_rules.specs.Lives.{AreCertificates, is_certificate_for}
 use Rattle.node_rules.specs.Vouching.{IsCertifiedBy, OwnSignaturesVerify}
-use Rattle.lms_tree.specs.Leaves.{index_count}
-use Rattle.signer.specs.Signing.{SignerState, public_key}
+use Rattle.sign_keys.specs.Keys.{KeySecret, index_count, public_key}
+use Rattle.signer.specs.Signing.{SignerState}
 use Rattle.node_core.proofs.OwnKeyLemmas.{own-verify}
 use Rattle.node_core.specs.declared.kit.Kit.{Kit}
 use Rattle.validate.specs.Certified.{Certificates, certificate_of as kept_certificate}
 use Rattle.node_core.specs.Playing.{KeepsCertificates, setting_of}
 use Rattle.node_core.specs.Rolls.{IsCertificateFor, IsOfOther, IsApart, AreApart, recs_of}
-use Rattle.node_core.specs.Begins.{IsCheckedIn, is_of_other, HasKey, IsKit, IsVouchable}
+use Rattle.node_core.specs.Begins.{AreCertificatesOf, IsCheckedIn, is_of_other, HasKey, IsKit, IsVouchable}
 use Rattle.node_core.proofs.RollLemmas.{same-certificate}
 use Rattle.node_core.proofs.PlayLemmas.{setting-group, setting-me}
 
@@ -55,20 +55,20 @@ for-tolerance group authority (x ∷ xs) checked apart =
     cons-all (IsCertificateFor group.t) x xs (record { cert = apart.0.cert; body = apart.0.body; tolerance = (head-of (IsCheckedIn group authority) x xs checked).tolerance })
     (for-tolerance group authority xs (tail-of (IsCheckedIn group authority) x xs checked) apart.1)
 
-setting-authority : (s : Setting) (g : Group) (me : ℕ) (a : PublicKey) (k : Secret) → s ≡ setting_of g me a k → s.authority ≡ keys.Lms a
+setting-authority : (s : Setting) (g : Group) (me : ℕ) (a : PublicKey) (k : KeySecret) → s ≡ setting_of g me a k → s.authority ≡ keys.Lms a
 unfolding setting_of
 setting-authority s g me a k e = ap (λ x. x.authority) e
 
-setting-verifies : (s : Setting) (g : Group) (me : ℕ) (a : PublicKey) (k : Secret) (key : Key) (r : Record) → s ≡ setting_of g me a k → s.verifies key r ≡ is_ok (verdict_of key (signed_bytes g.tag g.t r.body) r.signature)
+setting-verifies : (s : Setting) (g : Group) (me : ℕ) (a : PublicKey) (k : KeySecret) (key : Key) (r : Record) → s ≡ setting_of g me a k → s.verifies key r ≡ is_ok (verdict_of key (signed_bytes g.tag g.t r.body) r.signature)
 unfolding setting_of
 setting-verifies s g me a k key r e = ap (λ x. x.verifies key r) e
 
-setting-indexes : (s : Setting) (g : Group) (me : ℕ) (a : PublicKey) (k : Secret) → s ≡ setting_of g me a k → s.indexes ≡ index_count k
+setting-indexes : (s : Setting) (g : Group) (me : ℕ) (a : PublicKey) (k : KeySecret) → s ≡ setting_of g me a k → s.indexes ≡ index_count k
 unfolding setting_of
 setting-indexes s g me a k e = ap (λ x. x.indexes) e
 
 -- what was checked under the authority's key verifies under it
-verifies-checked : (s : Setting) (g : Group) (me : ℕ) (a : PublicKey) (k : Secret) (x : CheckedRecord) → s ≡ setting_of g me a k → IsCheckedIn g (keys.Lms a) x → IsChecked x → s.verifies s.authority x.rec ≡ true
+verifies-checked : (s : Setting) (g : Group) (me : ℕ) (a : PublicKey) (k : KeySecret) (x : CheckedRecord) → s ≡ setting_of g me a k → IsCheckedIn g (keys.Lms a) x → IsChecked x → s.verifies s.authority x.rec ≡ true
 verifies-checked s g me a k x e in_group good =
     let signed : Verifies (keys.Lms a) (signed_bytes g.tag g.t x.rec.body) x.rec.signature =
     subst (λ key. Verifies key (signed_bytes g.tag g.t x.rec.body) x.rec.signature) in_group.under
@@ -76,7 +76,7 @@ verifies-checked s g me a k x e in_group good =
     (subst (λ t. Verifies x.key (signed_bytes x.tag t x.rec.body) x.rec.signature) in_group.tolerance good.signed)) in
     ap (λ key. s.verifies key x.rec) (setting-authority s g me a k e) ∙ setting-verifies s g me a k (keys.Lms a) x.rec e ∙ good-verdict (keys.Lms a) (signed_bytes g.tag g.t x.rec.body) x.rec.signature signed
 
-all-certified : (s : Setting) (own : Key) (g : Group) (me : ℕ) (a : PublicKey) (k : Secret) (xs : List CheckedRecord) → s ≡ setting_of g me a k → All (IsCheckedIn g (keys.Lms a)) xs → AllByRecursion IsChecked xs
+all-certified : (s : Setting) (own : Key) (g : Group) (me : ℕ) (a : PublicKey) (k : KeySecret) (xs : List CheckedRecord) → s ≡ setting_of g me a k → All (IsCheckedIn g (keys.Lms a)) xs → AllByRecursion IsChecked xs
     → AllByRecursion (HasKey me own) (recs_of xs) → AllByRecursion (IsCertifiedBy s own) (recs_of xs)
 all-certified s own g me a k [] e checked good held = tt
 all-certified s own g me a k (x ∷ xs) e checked good held = (
@@ -88,11 +88,30 @@ pub apart-certificates : (records : List Record) → AreApart records → AreCer
 apart-certificates [] apart = tt
 apart-certificates (r ∷ records) apart = ((apart.0.cert, apart.0.body), apart-certificates records apart.1)
 
+-- the key in a certificate that was checked has its parts
+first-key : (me : ℕ) (own : Key) (x : CheckedRecord) (b : Body) → x.rec.body ≡ b → is_certificate_for me b ≡ true → IsBody b → HasKey me own x.rec → IsKey own
+first-key me own x (Certificate c) is mine good key = subst (λ (k : Key). IsKey k) (key c is (eqb-true c.member me mine)) good.key
+first-key me own x (Note n) is mine good key = absurd (false≢true mine)
+first-key me own x (Accusation a) is mine good key = absurd (false≢true mine)
+
+-- so the node's own key has them, whose certificate is among those that were checked
+keys-checked : (me : ℕ) (own : Key) (xs : List CheckedRecord) → AllByRecursion IsChecked xs → AllByRecursion (HasKey me own) (recs_of xs)
+    → list_any (λ r. is_certificate_for me r.body) (recs_of xs) ≡ true → IsKey own
+keys-checked me own [] checked keys among = absurd (false≢true among)
+keys-checked me own (x ∷ xs) checked keys among =
+    elim (cases_Bool (is_certificate_for me x.rec.body)) [
+      | inl mine ↦ first-key me own x x.rec.body refl mine checked.0.body keys.0
+      | inr other ↦ keys-checked me own xs checked.1 keys.1 (sym (ap (λ b. b || list_any (λ r. is_certificate_for me r.body) (recs_of xs)) other) ∙ among)
+    ]
+
+own-key : (me : ℕ) (own : Key) (xs : List CheckedRecord) → AreCertificatesOf me own xs → IsKey own
+own-key me own xs are = keys-checked me own xs are.verify are.keys are.among
+
 -- what a sound kit gives the theorem on records that vouch for a life
 pub vouchable : (s : Setting) (kit : Kit) (signer : SignerState) → s ≡ setting_of kit.group kit.me kit.authority signer.key → IsKit kit (public_key signer.key) → signer.state.next < index_count signer.key
     → IsVouchable s (public_key signer.key) (recs_of kit.certificates.items) signer.state
 vouchable s kit signer e k left =
-    let key : Secret = signer.key in
+    let key : KeySecret = signer.key in
     let group : s.group ≡ kit.group = setting-group s kit.group kit.me kit.authority key e in
     let me : s.me ≡ kit.me = setting-me s kit.group kit.me kit.authority key e in
     record {
@@ -102,7 +121,7 @@ vouchable s kit signer e k left =
         own = subst (λ (m : ℕ). list_any (λ r. is_certificate_for m r.body) (recs_of kit.certificates.items) ≡ true) (sym me) k.certificates.among;
       };
       certified = all-certified s (public_key key) kit.group kit.me kit.authority key kit.certificates.items e k.checked k.certificates.verify k.certificates.keys;
-      signatures = subst (λ (x : Setting). OwnSignaturesVerify x (public_key key)) (sym e) (own-verify kit.group kit.me kit.authority key);
+      signatures = subst (λ (x : Setting). OwnSignaturesVerify x (public_key key)) (sym e) (own-verify kit.group kit.me kit.authority key (own-key kit.me (public_key key) kit.certificates.items k.certificates));
       left = subst (λ (n : ℕ). signer.state.next < n) (sym (setting-indexes s kit.group kit.me kit.authority key e)) left;
     }
 

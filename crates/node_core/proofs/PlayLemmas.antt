@@ -27,7 +27,6 @@ use Rattle.membership.specs.Life.{Life, has_joined}
 use Rattle.membership.specs.Holds.{Holds}
 use Rattle.membership.specs.Reports.{Answers}
 use Rattle.lms_tree.specs.declared.key.PublicKey.{PublicKey}
-use Rattle.lms_tree.specs.declared.secret.Secret.{Secret}
 use Rattle.records.specs.declared.CertBody.{CertBody}
 use Rattle.records.specs.declared.Body.{Body}
 use Rattle.records.specs.declared.Body.TheVariants.{Certificate, Note, Accusation}
@@ -46,9 +45,8 @@ use Rattle.signer.specs.Signing.{SignerState, stored_after, signed_record, next_
 use Rattle.signer.specs.declared.SignFault.{SignFault}
 use Rattle.signer.specs.declared.SignFault.TheVariants as refusals
 use Rattle.epoch_store.specs.declared.Stored.{Stored}
-use Rattle.lms_tree.specs.Leaves.{index_count}
+use Rattle.sign_keys.specs.Keys.{KeySecret, index_count, signature_of}
 use Rattle.ff_ids.specs.declared.Mask.{Mask}
-use Rattle.lms_tree.specs.Lms.{signature_of}
 use Rattle.records.specs.Signing.{signed_bytes}
 use Rattle.datagram.specs.declared.Datagram.{Datagram}
 use Rattle.datagram.specs.Spelling.{datagram_bytes}
@@ -98,11 +96,11 @@ holds-ended set held r h =
 
 -- ---- the setting
 
-pub setting-group : (s : Setting) (g : Group) (me : ℕ) (a : PublicKey) (k : Secret) → s ≡ setting_of g me a k → s.group ≡ g
+pub setting-group : (s : Setting) (g : Group) (me : ℕ) (a : PublicKey) (k : KeySecret) → s ≡ setting_of g me a k → s.group ≡ g
 unfolding setting_of
 setting-group s g me a k e = ap (λ x. x.group) e
 
-pub setting-me : (s : Setting) (g : Group) (me : ℕ) (a : PublicKey) (k : Secret) → s ≡ setting_of g me a k → s.me ≡ me
+pub setting-me : (s : Setting) (g : Group) (me : ℕ) (a : PublicKey) (k : KeySecret) → s ≡ setting_of g me a k → s.me ≡ me
 unfolding setting_of
 setting-me s g me a k e = ap (λ x. x.me) e
 

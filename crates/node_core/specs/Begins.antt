@@ -24,7 +24,7 @@ use Rattle.records.specs.declared.keys.Key.{Key}
 use Rattle.records.specs.declared.keys.Key.TheVariants as key_kinds
 use Rattle.signer.specs.Signing.{SignerState, stored_after, next_note, signed_record}
 use Rattle.signer.specs.Lives.{Spent}
-use Rattle.lms_tree.specs.Leaves.{index_count}
+use Rattle.sign_keys.specs.Keys.{index_count}
 use Rattle.ff_ids.specs.Masks.{good_mask}
 use Rattle.node_rules.specs.Replies.{first_mask}
 use Rattle.node_core.specs.declared.NodeFault.{NodeFault}
@@ -94,7 +94,7 @@ pub record MayBegin (s : Setting) (seed : List ℕ) (certificates : List Record)
 
 -- ---- the first signature
 
--- The first note was signed by the leaf of the next index.
+-- The first note was signed with the next index.
 pub record IsFirst (old new : SignerState) (t me : ℕ) (f : First) : Type 0 where
   pub free : old.state.next < index_count old.key
   pub index : f.index ≡ old.state.next

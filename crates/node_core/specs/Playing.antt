@@ -10,12 +10,10 @@ use Rattle.ff_ids.specs.declared.summary.RecordKey.{RecordKey}
 use Rattle.ff_ids.specs.Masks.{note_mask}
 use Rattle.lms_tree.specs.declared.key.PublicKey.{PublicKey}
 use Rattle.records.specs.declared.CertBody.{CertBody}
-use Rattle.lms_tree.specs.declared.secret.Secret.{Secret}
-use Rattle.lms_tree.specs.Leaves.{index_count}
-use Rattle.lms_tree.specs.Lms.{signature_of}
 use Rattle.records.specs.declared.keys.Key.TheVariants as keys
 use Rattle.records.specs.Keys.{verdict_of}
 use Rattle.records.specs.Signing.{signed_bytes}
+use Rattle.sign_keys.specs.Keys.{KeySecret, index_count, signature_of}
 use Rattle.ring_order.specs.Hashed.{hashed_places}
 use Rattle.membership.specs.Life.{Life, has_joined}
 use Rattle.membership.specs.Holds.{Holds}
@@ -43,7 +41,7 @@ pub record Kept : Type 0 where
   pub ended : Bool
 
 -- What the node is opened with: hashed places, signatures of the key in the group, and their verdicts.
-unfoldable pub setting_of : Group → ℕ → PublicKey → Secret → Setting
+unfoldable pub setting_of : Group → ℕ → PublicKey → KeySecret → Setting
 setting_of group me authority key =
     record {
       group = group;

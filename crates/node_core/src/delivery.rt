@@ -1,10 +1,10 @@
 //! One delivery: the bytes of a datagram, whatever they are.
 
-ghost use Rattle.std.specs.Prelude.{◌≡◌, ℕ, ◌≤◌, ◌<◌, List, true, false, Some, Ok, Err, ◌↔◌, OnOk, IfErr, is_err};
+ghost use Rattle.std.specs.Prelude.{◌≡◌, ℕ, ◌≤◌, ◌<◌, List, true, false, Some, Ok, Err, ◌↔◌, OnOk, IfOk, IfErr, is_err};
 ghost use Rattle.ports.specs.Count.{counted as counts_faults, Rose};
 ghost use Rattle.ports.specs.MemoryDisk.{DiskState};
 ghost use Rattle.journal.specs.declared.event.Event as journal;
-ghost use Rattle.datagram.specs.Grammar.{read_of};
+ghost use Rattle.datagram.specs.Grammar.{GivesDatagram, read_of};
 ghost use Rattle.datagram.specs.Spelling.{IsWritable};
 ghost use Rattle.node_rules.specs.Nodes.{Setting};
 ghost use Rattle.node_rules.specs.Calls.{Call, tells};
@@ -88,17 +88,19 @@ impl Node {
         }
     }
 
-    /// One delivery.
-    fn hear_bytes<D: Disk>(
+    /// What was read of the bytes of a datagram.
+    fn hear_read<D: Disk>(
         &mut self,
         alloc: Global,
         disk: &mut D,
-        bytes: &[u8],
+        heard: Result<Datagram, FormFault>,
     ) -> Result<(), NodeFault>
+        requires writable { IfOk heard (λ d. IsWritable d) }
         requires open { IsInCall self.old }
-        ensures plays { (s : Setting) (es : List journal.Event) (os : List (ℕ × List ℕ)) (c : Call)
+        ensures plays { (bytes : List ℕ) → GivesDatagram (read_of bytes) heard
+            → (s : Setting) (es : List journal.Event) (os : List (ℕ × List ℕ)) (c : Call)
             → Plays s es os self.old c
-            → RunsHearing (Plays s es os self.new) (Stops s es os self.new) s (read_of bytes.now) c
+            → RunsHearing (Plays s es os self.new) (Stops s es os self.new) s (read_of bytes) c
             result }
         ensures grows { Grows self.old self.new }
         ensures spends { Spends self.old self.new (D.state disk.old).moments
@@ -107,15 +109,17 @@ impl Node {
         ensures faults { (D.state disk.new).faults
             ≡ counts_faults (is_err result) (D.state disk.old).faults }
         ensures cause { IfErr result (λ e. e ≡ faults.StoreFault) }
-        ensures follows { (s : Setting) (es : List journal.Event) (os : List (ℕ × List ℕ))
+        ensures follows { (bytes : List ℕ) → GivesDatagram (read_of bytes) heard
+            → (s : Setting) (es : List journal.Event) (os : List (ℕ × List ℕ))
             (c : Call) (d : DiskState) → Plays s es os self.old c → c.ended ≡ false
             → (D.state disk.old).model ≡ Some d → self.new.telling.failed ≡ false
             → ComesTo s es os self.new (D.state disk.new).model (is_err result)
-            (hears_on storage s (read_of bytes.now) (on_disk c d self.old.signer.seat)) }
-        ensures unsigned { brings_records (read_of bytes.now) ≡ false
+            (hears_on storage s (read_of bytes) (on_disk c d self.old.signer.seat)) }
+        ensures unsigned { (bytes : List ℕ) → GivesDatagram (read_of bytes) heard
+            → brings_records (read_of bytes) ≡ false
             → (self.new.signer ≡ self.old.signer) × (D.state disk.new ≡ D.state disk.old) }
     {
-        match read(alloc, bytes) {
+        match heard {
             Ok(datagram) => self.hear(alloc, disk, datagram),
             Err(fault) => {
                 self.hear_fault(fault);
@@ -148,6 +152,58 @@ impl Node {
         };
         self.ended = answer.is_err();
         answer
+    }
+
+    /// As `deliver`, of bytes that were read already: `heard` is what `datagram::read` gives of them.
+    pub fn deliver_read<D: Disk>(
+        &mut self,
+        alloc: Global,
+        disk: &mut D,
+        heard: Result<Datagram, FormFault>,
+        out: &mut Outbox,
+        events: &mut Events,
+    ) -> Result<(), NodeFault>
+        requires writable { IfOk heard (λ d. IsWritable d) }
+        ensures step { (bytes : List ℕ) → GivesDatagram (read_of bytes) heard
+            → (s : Setting) (n : RulesNode) → IsNode s self.old n → self.old.ended ≡ false
+            → GivesCall s n (Delivers bytes) self.new
+            (record { events = events.old; sent = out.old })
+            (record { events = events.new; sent = out.new }) result }
+        ensures over { (self.old.ended ≡ true) ↔ IsEnded result }
+        ensures stops { self.old.ended ≡ false → IfErr result MayStop }
+        ensures ended { self.new.ended ≡ is_err result }
+        ensures unchanged_after_end { self.old.ended ≡ true
+            → (self.new ≡ self.old) × (disk.new ≡ disk.old) × (events.new ≡ events.old)
+            × (out.new ≡ out.old) }
+        ensures stands { Stands (record { events = events.old; sent = out.old })
+            (record { events = events.new; sent = out.new }) }
+        ensures spends { SpendsIn result self.old.signer self.new.signer (D.state disk.old).moments
+            (D.state disk.new).moments events.old events.new }
+        ensures closed { OnOk result (self.new.signer.closed ≡ self.old.signer.closed) }
+        ensures kept { KeepsCertificates self.old.roster self.new.roster }
+        ensures faults { IfErr result (λ e. e ≡ faults.StoreFault
+            → Rose (D.state disk.old).faults (D.state disk.new).faults) }
+        ensures no_disk_fault { OnOk result
+            ((D.state disk.new).faults ≡ (D.state disk.old).faults) }
+        ensures follows { (bytes : List ℕ) → GivesDatagram (read_of bytes) heard
+            → (s : Setting) (n : RulesNode) (d : DiskState) → IsNode s self.old n
+            → self.old.ended ≡ false → (D.state disk.old).model ≡ Some d
+            → FollowsDisk s self.new (record { events = events.old; sent = out.old })
+            (record { events = events.new; sent = out.new }) (D.state disk.new).model
+            (delivered_on storage s n bytes (record { disk = d; seat = self.old.signer.seat }))
+            result }
+        ensures unsigned { (bytes : List ℕ) → GivesDatagram (read_of bytes) heard
+            → brings_records (read_of bytes) ≡ false
+            → (self.new.signer ≡ self.old.signer) × (D.state disk.new ≡ D.state disk.old) }
+    {
+        if self.ended {
+            return Err(NodeFault::Ended);
+        }
+        // Until the call is known to have ended well.
+        self.ended = true;
+        self.telling = CallOutput::over(alloc, events, out);
+        let done = self.hear_read(alloc, disk, heard);
+        self.finish(done, out, events)
     }
 
     /// Handles the bytes of one datagram, whatever they are: appends what that reports to `events` and what it sends to
@@ -193,13 +249,7 @@ impl Node {
         ensures unsigned { brings_records (read_of bytes.now) ≡ false
             → (self.new.signer ≡ self.old.signer) × (D.state disk.new ≡ D.state disk.old) }
     {
-        if self.ended {
-            return Err(NodeFault::Ended);
-        }
-        // Until the call is known to have ended well.
-        self.ended = true;
-        self.telling = CallOutput::over(alloc, events, out);
-        let heard = self.hear_bytes(alloc, disk, bytes);
-        self.finish(heard, out, events)
+        let heard = read(alloc, bytes);
+        self.deliver_read(alloc, disk, heard, out, events)
     }
 }

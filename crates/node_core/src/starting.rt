@@ -5,8 +5,7 @@ ghost use Rattle.std.specs.List.{list_any};
 ghost use Rattle.ff_ids.specs.declared.TheConstants.{MAX_TOLERANCE};
 ghost use Rattle.ff_ids.specs.Masks.{good_mask};
 ghost use Rattle.ports.specs.Count.{counted};
-ghost use Rattle.lms_tree.specs.Leaves.{index_count};
-ghost use Rattle.signer.specs.Signing.{public_key};
+ghost use Rattle.sign_keys.specs.Keys.{index_count, public_key};
 ghost use Rattle.records.specs.declared.Record.{Record as Recorded};
 ghost use Rattle.records.specs.declared.Body.TheVariants as bodies;
 ghost use Rattle.epoch_store.specs.declared.Stored.{Stored};
@@ -285,7 +284,7 @@ impl Node {
     /// stored one, with the stored mask if it is good, else with all rings enabled. Nothing is sent.
     ///
     /// The kit is sound for the signer's key, the signer was opened with the kit's group, and the disk is that of its
-    /// store. `Exhausted` comes where the key has no leaf left, `StoreFault` only where the disk failed; `Ended` never. A
+    /// store. `Exhausted` comes where the key has no index left, `StoreFault` only where the disk failed; `Ended` never. A
     /// life that is refused reports nothing, and has spent no index, but perhaps one where memory was refused.
     pub fn start<D: Disk>(
         alloc: Global,

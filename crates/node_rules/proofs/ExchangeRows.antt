@@ -1,5 +1,5 @@
 -- Worked rows: a node is handed what it lacks of a page; and two conditions without which that isn't enough.
-use Rattle.std.proofs.Common.{◌≡◌, ℕ, ◌<◌, eqb, ltb, leb, cond, inl, inr, List, [], ◌∷◌, ◌++◌, ◌==◌, length, Option, Some, None, refl, ap, sym, ◌∙◌, replicate, arith, eq-eqb, lit<}
+use Rattle.std.proofs.Common.{◌≡◌, ℕ, ◌<◌, eqb, ltb, leb, cond, inl, inr, List, [], ◌∷◌, ◌++◌, ◌==◌, length, Option, Some, None, refl, ap, sym, ◌∙◌, arith, eq-eqb, lit<}
 use Rattle.std.specs.Prelude.{◌&&◌, nat_lt, nat_le, slice_index}
 use Rattle.std.proofs.lemmas.Bool.{cases_Bool, eqb-true, and_parts, ltb-true, leb-true}
 use Rattle.std.specs.Option.{option_and_then}
@@ -83,6 +83,7 @@ own_note_counts = refl
 -- of member 2, its note is refused.
 abbrev byte_of : Key → ℕ
 byte_of (key_kinds.Lms k) = slice_index k.id 0
+byte_of (key_kinds.Hss k) = slice_index k.top.id 0
 
 abbrev strict : ℕ → Setting
 strict me = record (setting me) { verifies = λ k r. byte_of k == slice_index r.signature 0 }
