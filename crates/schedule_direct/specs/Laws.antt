@@ -1,8 +1,9 @@
 -- What is taken as a line of the direct form is one by its grammar, and what is one is taken.
-use Rattle.std.proofs.Common.{◌≡◌, ℕ, List, ◌∷◌, Some, Ok, Err, refl, ap, if◌then◌else◌}
+use Rattle.std.proofs.Common.{◌≡◌, ℕ, List, ◌∷◌, Some, Result, Ok, Err, refl, ap, if◌then◌else◌}
+use Rattle.line_text.specs.declared.bad_word.BadWord.{BadWord}
 use Rattle.line_text.specs.declared.bad_word.BadWord.TheVariants as bad
 use Rattle.line_text.specs.Frame.{fields_line, row_line}
-use Rattle.line_text.specs.Shapes.{Values, line_from, made_of}
+use Rattle.line_text.specs.Shapes.{Values, line_from, made_of, tests_for}
 use Rattle.line_text.specs.Tables.{IsSound as IsSoundTable, Line, row_of}
 use Rattle.line_text.proofs.TableLemmas.{table-spelled, table-taken}
 use Rattle.schedule_direct.specs.declared.direct.Direct.{Direct}
@@ -31,10 +32,10 @@ direct-spelled d first args l e = table-spelled direct_table sound d first args 
 pub direct-taken : (d : Direct) (first : List ℕ) (args : List (List ℕ)) (l : DirectLine) → IsSound d → IsDirect d (first ∷ args) l → row_line (row_for d (first ∷ args)) args ≡ Ok l
 direct-taken d first args l good h = table-taken direct_table sound d first args l h
 
-line_is : (d : Direct) (word : LineWord) → line_of word ≡ line_from (fields d word) (line d word)
-line_is d words.End = refl
-line_is d _ = refl
+words_are : (d : Direct) (word : LineWord) (args : List (List ℕ)) → fields_line (fields_of d word) (line_of word) args ≡ fields_line (tests_for (fields d word) args) (line_from (fields d word) (line d word)) args
+words_are d words.End args = refl
+words_are d _ args = refl
 
 -- What is read is what the table says.
 pub direct-reads : (d : Direct) (word : LineWord) (args : List (List ℕ)) → reads d word args ≡ row_line (Ok (row_of direct_table d word)) args
-direct-reads d word args = ap (λ (of : List (List ℕ) → DirectLine). if may_stand d word then fields_line (fields_of d word) of args else Err bad.Order) (line_is d word)
+direct-reads d word args = ap (λ (r : Result DirectLine BadWord). if may_stand d word then r else Err bad.Order) (words_are d word args)

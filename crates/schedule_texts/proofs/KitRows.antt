@@ -9,6 +9,7 @@ use Rattle.records.specs.declared.keys.Key.{Key}
 use Rattle.records.specs.declared.keys.Key.TheVariants as keys
 use Rattle.lms_tree.specs.Lms.{key_bytes, key_in, verdict_of}
 use Rattle.lms_tree.specs.declared.key.PublicKey.{PublicKey}
+use Rattle.sign_keys.specs.Keys.{new_key}
 use Rattle.secrets.specs.Secrets.{key_from}
 use Rattle.line_text.specs.declared.bad_word.BadWord.{BadWord}
 use Rattle.line_text.specs.declared.bad_word.BadWord.TheVariants as bad
@@ -54,9 +55,18 @@ unfolding judge_line key_in hex_on_literals
 heads = (refl, refl, refl, refl)
 
 abbrev kinded : KitText
-kinded = kit.Kinded group_1 (record { ots = W1; tree = H5 })
+kinded = kit.Kinded group_1 (record { ots = W1; tree = H5; bottom = None })
 
-owners : (at kinded (codes "self 2 000000000000000000000000000000000000000000000000000000000000000A") ≡ Ok (lines.Own 2 (replicate 31 0 ++ 10 ∷ []) (key_from W1 H5 (replicate 31 0 ++ 10 ∷ []))))
+-- the kinds of a member's key come as in a secret's text
+kinds : (at (kit.Grouped group_1) (codes "kinds 4 5") ≡ Ok (lines.Kinds (record { ots = W4; tree = H5; bottom = None })))
+    × (at (kit.Grouped group_1) (codes "kinds 4 5 5") ≡ Ok (lines.Kinds (record { ots = W4; tree = H5; bottom = Some H5 })))
+    × (at (kit.Grouped group_1) (codes "kinds 1 5 5") ≡ Err bad.Limit)
+    × (at (kit.Grouped group_1) (codes "kinds 1 5 x") ≡ Err bad.Number)
+    × (at (kit.Grouped group_1) (codes "kinds 4 5 5 5") ≡ Err bad.Count)
+unfolding judge_line key_in hex_on_literals
+kinds = (refl, refl, refl, refl, refl)
+
+owners : (at kinded (codes "self 2 000000000000000000000000000000000000000000000000000000000000000A") ≡ Ok (lines.Own 2 (replicate 31 0 ++ 10 ∷ []) (new_key (key_from (record { ots = W1; tree = H5; bottom = None }) (replicate 31 0 ++ 10 ∷ [])))))
     × (at kinded (codes "self 1024 00") ≡ Err bad.Limit)
     × (at kinded (codes "self 1 00") ≡ Err bad.Limit)
     × (at kinded (codes "self 1 -") ≡ Err bad.Hex)

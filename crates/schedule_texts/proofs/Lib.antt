@@ -1,5 +1,6 @@
 mod Rows
 pub mod FieldLemmas
 pub mod TableLemmas
+pub mod KindLemmas
 mod KitRows
 pub mod KitReadingLemmas

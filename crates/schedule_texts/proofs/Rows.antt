@@ -1,11 +1,12 @@
 -- Worked lines: what each is, or its first bad word. Each row is computed.
-use Rattle.std.proofs.Common.{◌≡◌, ℕ, true, false, ◌++◌, [], ◌∷◌, List, Result, Ok, Err, refl, codes}
+use Rattle.std.proofs.Common.{◌≡◌, ℕ, true, false, ◌++◌, [], ◌∷◌, List, Some, None, Result, Ok, Err, refl, codes}
 use Rattle.std.specs.Prelude.{replicate}
 use Rattle.hex.proofs.OnLiterals.{hex_on_literals}
 use Rattle.ff_ids.specs.declared.Group.{Group}
 use Rattle.lms_ots.specs.declared.kind.OtsKind.TheVariants.{W1, W2, W4, W8}
 use Rattle.lms_tree.specs.declared.kind.TreeKind.TheVariants.{H5, H10, H15}
 use Rattle.lms_tree.specs.Lms.{key_in}
+use Rattle.hss.specs.Hss as hss
 use Rattle.records.specs.declared.keys.Key.TheVariants as keys
 use Rattle.line_text.specs.declared.bad_word.BadWord.{BadWord}
 use Rattle.line_text.specs.declared.bad_word.BadWord.TheVariants as bad
@@ -56,18 +57,44 @@ groups : (at secret.Headed (codes "group 1 4 1 2 0000000000000000000000000000000
 unfolding judge_line key_in hex_on_literals
 groups = (refl, refl, refl, refl, refl, refl, refl, refl, refl, refl, refl, refl)
 
-kinds : (at secret.Grouped (codes "kinds 1 5") ≡ Ok (secret_lines.Kinds (record { ots = W1; tree = H5 })))
-    × (at secret.Grouped (codes "kinds 2 10") ≡ Ok (secret_lines.Kinds (record { ots = W2; tree = H10 })))
-    × (at secret.Grouped (codes "kinds 4 15") ≡ Ok (secret_lines.Kinds (record { ots = W4; tree = H15 })))
-    × (at secret.Grouped (codes "kinds 8 15") ≡ Ok (secret_lines.Kinds (record { ots = W8; tree = H15 })))
+kinds : (at secret.Grouped (codes "kinds 1 5") ≡ Ok (secret_lines.Kinds (record { ots = W1; tree = H5; bottom = None })))
+    × (at secret.Grouped (codes "kinds 2 10") ≡ Ok (secret_lines.Kinds (record { ots = W2; tree = H10; bottom = None })))
+    × (at secret.Grouped (codes "kinds 4 15") ≡ Ok (secret_lines.Kinds (record { ots = W4; tree = H15; bottom = None })))
+    × (at secret.Grouped (codes "kinds 8 15") ≡ Ok (secret_lines.Kinds (record { ots = W8; tree = H15; bottom = None })))
     × (at secret.Grouped (codes "kinds 3 5") ≡ Err bad.Limit)
     × (at secret.Grouped (codes "kinds 16 5") ≡ Err bad.Limit)
     × (at secret.Grouped (codes "kinds 8 20") ≡ Err bad.Limit)
     × (at secret.Grouped (codes "kinds 8 6") ≡ Err bad.Limit)
     × (at secret.Grouped (codes "kinds 8 x") ≡ Err bad.Number)
-    × (at secret.Grouped (codes "kinds 8 5 5") ≡ Err bad.Count)
+    × (at secret.Grouped (codes "kinds 8") ≡ Err bad.Count)
 unfolding judge_line key_in hex_on_literals
 kinds = (refl, refl, refl, refl, refl, refl, refl, refl, refl, refl)
+
+-- A key of two levels has W4 or W8, and at most 15 levels in all; each word comes before them as a whole.
+two_levels : (at secret.Grouped (codes "kinds 4 10 5") ≡ Ok (secret_lines.Kinds (record { ots = W4; tree = H10; bottom = Some H5 })))
+    × (at secret.Grouped (codes "kinds 8 5 10") ≡ Ok (secret_lines.Kinds (record { ots = W8; tree = H5; bottom = Some H10 })))
+    × (at secret.Grouped (codes "kinds 4 10 10") ≡ Err bad.Limit)
+    × (at secret.Grouped (codes "kinds 1 5 5") ≡ Err bad.Limit)
+    × (at secret.Grouped (codes "kinds 2 5 5") ≡ Err bad.Limit)
+    × (at secret.Grouped (codes "kinds 4 15 5") ≡ Err bad.Limit)
+    × (at secret.Grouped (codes "kinds 4 5 15") ≡ Err bad.Limit)
+    × (at secret.Grouped (codes "kinds 4 5 7") ≡ Err bad.Limit)
+    × (at secret.Grouped (codes "kinds 2 15 05") ≡ Err bad.Number)
+    × (at secret.Grouped (codes "kinds 3 5 x") ≡ Err bad.Limit)
+    × (at secret.Grouped (codes "kinds 4 5 5 5") ≡ Err bad.Count)
+    × (at secret.Headed (codes "kinds 4 10 5") ≡ Err bad.Order)
+    × (moving (migrate.Moved secret.Grouped) (codes "kinds 4 10 5") ≡ Ok (secret_lines.Kinds (record { ots = W4; tree = H10; bottom = Some H5 })))
+    × (moving (migrate.Moved secret.Grouped) (codes "kinds 4 10 10") ≡ Err bad.Limit)
+    × (moving (migrate.Moved secret.Grouped) (codes "kinds 4 5 5 5") ≡ Err bad.Count)
+unfolding judge_line key_in hex_on_literals
+two_levels = (refl, refl, refl, refl, refl, refl, refl, refl, refl, refl, refl, refl, refl, refl, refl)
+
+-- An authority's key has one level.
+authority_kinds : (below roster.Grouped (codes "kinds 4 5") ≡ Ok (roster_lines.Kinds (record { ots = W4; tree = H5; bottom = None })))
+    × (below roster.Grouped (codes "kinds 4 5 5") ≡ Err bad.Count)
+    × (below roster.Grouped (codes "kinds 3 5") ≡ Err bad.Limit)
+unfolding judge_line key_in hex_on_literals
+authority_kinds = (refl, refl, refl)
 
 secrets : (at secret.Kinded (codes "secret 00000000000000000000000000000000000000000000000000000000000000fF") ≡ Ok (secret_lines.Secret (replicate 31 0 ++ 255 ∷ [])))
     × (at secret.Kinded (codes "secret 00") ≡ Err bad.Limit)
@@ -111,7 +138,7 @@ moves = (refl, refl, refl, refl, refl, refl, refl, refl, refl)
 -- The second group has a place of its own, and behind it the lines come as in a secret's text.
 move_places : (moving from_left (codes "kinds 1 5") ≡ Err bad.Order)
     × (moving migrate.Headed (codes "kinds 1 5") ≡ Err bad.Order)
-    × (moving (migrate.Moved secret.Grouped) (codes "kinds 1 5") ≡ Ok (secret_lines.Kinds (record { ots = W1; tree = H5 })))
+    × (moving (migrate.Moved secret.Grouped) (codes "kinds 1 5") ≡ Ok (secret_lines.Kinds (record { ots = W1; tree = H5; bottom = None })))
     × (moving (migrate.Moved secret.Grouped) (codes "group 1 4 1 2 00000000000000000000000000000000") ≡ Err bad.Order)
     × (moving (migrate.Moved secret.Grouped) (codes "kinds 3 5") ≡ Err bad.Limit)
     × (moving (migrate.Moved secret.Kinded) (codes "secret 00000000000000000000000000000000000000000000000000000000000000fF") ≡ Ok (secret_lines.Secret (replicate 31 0 ++ 255 ∷ [])))
@@ -137,13 +164,16 @@ certificates : (below one_named (codes "cert 2 1" ++ 32 ∷ key_digits) ≡ Ok (
     × (below one_named (codes "cert 1024 1" ++ 32 ∷ key_digits) ≡ Err bad.Limit)
     × (below one_named (codes "cert 2 0" ++ 32 ∷ key_digits) ≡ Err bad.Limit)
     × (below one_named (codes "cert 2 65536" ++ 32 ∷ key_digits) ≡ Err bad.Limit)
+    × (below one_named (codes "cert 2 1 00000002" ++ key_digits) ≡ Ok (roster_lines.Cert (record { member = 2; port = 1; key = keys.Hss (record { top = record { tree = H5; ots = W4; id = replicate 16 161; root = replicate 32 178 } }) })))
     × (below one_named (codes "cert 2 1 00000008" ++ key_digits) ≡ Err bad.Limit)
+    × (below one_named (codes "cert 2 1 000000" ++ key_digits) ≡ Err bad.Limit)
+    × (below one_named (codes "cert 2 1 0000000002" ++ key_digits) ≡ Err bad.Limit)
     × (below one_named (codes "cert 2 1 0" ++ key_digits) ≡ Err bad.Hex)
     × (below one_named (codes "cert 2 1") ≡ Err bad.Count)
     × (below roster.Kinded (codes "cert 2 1 00") ≡ Err bad.Order)
     × (below one_named (codes "end") ≡ Ok roster_lines.End)
-unfolding judge_line key_in hex_on_literals
-certificates = (refl, refl, refl, refl, refl, refl, refl, refl, refl, refl)
+unfolding judge_line key_in hss.key_in hex_on_literals
+certificates = (refl, refl, refl, refl, refl, refl, refl, refl, refl, refl, refl, refl, refl)
 
 named : (roster_text.after one_named (roster_lines.Cert (record { member = 2; port = 1; key = keys.Lms (record { tree = H5; ots = W4; id = []; root = [] }) })) ≡ roster.Body (false ∷ true ∷ true ∷ []))
 named = refl

@@ -1,5 +1,5 @@
 -- Lines of a value.
-use Rattle.std.proofs.Common.{◌≡◌, ℕ, Bool, true, false, List, Option, Some, None, Result, Ok, Err, ap}
+use Rattle.std.proofs.Common.{◌≡◌, ℕ, Bool, true, false, ◌||◌, List, Option, Some, None, Result, Ok, Err, ap}
 use Rattle.line_text.specs.declared.bad_word.BadWord.{BadWord}
 use Rattle.line_text.specs.declared.bad_word.BadWord.TheVariants as bad
 use Rattle.line_text.specs.Fields.{Test, bad_where}
@@ -25,14 +25,33 @@ line_good fields value of args x e = good_too (first_of (field_tests fields args
 
 -- ## Lines that may be refused as a whole
 
-good_before : {L : Type 0} (o : Option BadWord) (l x : L) (r : L → Result L BadWord) → given x ≡ unless_bad o (given l) → r x ≡ unless_bad o (r l)
-good_before None l x r e = (let same : x ≡ l = cc in ap r same)
-good_before (Some w) l x r e = absurd cc
+bad_whole : {V L : Type 0} (o p : Option BadWord) (v : V) (l : L) (w : BadWord) → Err w ≡ unless_bad o (unless_bad p (given v)) → Err w ≡ unless_bad o (unless_bad p (given l))
+bad_whole None p v l w e = bad_too p v l w e
+bad_whole (Some x) p v l w e = cc
 
--- a line whose words are good is refused where it is refused as a whole
-whole_judged : {L : Type 0} (fields : List Test) (refuses : L → Bool) (line : List (List ℕ) → L) (args : List (List ℕ)) (x : L) → given x ≡ fields_line fields line args
-    → unless_bad (bad_where bad.Limit (refuses x)) (given x) ≡ whole_line fields (λ ws. bad_where bad.Limit (refuses (line ws))) line args
-whole_judged fields refuses line args x e = good_before (first_of (field_tests fields args)) (line args) x (λ l. unless_bad (bad_where bad.Limit (refuses l)) (given l)) e
+good_whole : {V L : Type 0} (o p : Option BadWord) (v x : V) (of : V → L) → given x ≡ unless_bad o (unless_bad p (given v)) → given (of x) ≡ unless_bad o (unless_bad p (given (of v)))
+good_whole None p v x of e = good_too p v x of e
+good_whole (Some w) p v x of e = absurd cc
+
+-- words that aren't a value, or are refused as one, are no line of it either
+pub value_bad : {V L : Type 0} (fields : List Test) (fault : List (List ℕ) → Option BadWord) (value : List (List ℕ) → V) (line : List (List ℕ) → L) (args : List (List ℕ)) (w : BadWord) → Err w ≡ whole_line fields fault value args → Err w ≡ whole_line fields fault line args
+value_bad fields fault value line args w e = bad_whole (first_of (field_tests fields args)) (fault args) (value args) (line args) w e
+
+pub value_good : {V L : Type 0} (fields : List Test) (fault : List (List ℕ) → Option BadWord) (value : List (List ℕ) → V) (of : V → L) (args : List (List ℕ)) (x : V) → given x ≡ whole_line fields fault value args → given (of x) ≡ whole_line fields fault (λ ws. of (value ws)) args
+value_good fields fault value of args x e = good_whole (first_of (field_tests fields args)) (fault args) (value args) x of e
+
+-- ## Lines that are refused as a whole in one text more
+
+limit_before : {L : Type 0} (o : Option BadWord) (u b : Bool) (l : L) (w : BadWord) → Err w ≡ unless_bad o (unless_bad (bad_where bad.Limit u) (given l)) → Err w ≡ unless_bad o (unless_bad (bad_where bad.Limit (u || b)) (given l))
+limit_before None true b l w e = e
+limit_before None false b l w e = absurd cc
+limit_before (Some x) u b l w e = e
+
+judged_before : {L : Type 0} (o : Option BadWord) (u : Bool) (refuses : L → Bool) (l x : L) → given x ≡ unless_bad o (unless_bad (bad_where bad.Limit u) (given l))
+    → unless_bad (bad_where bad.Limit (refuses x)) (given x) ≡ unless_bad o (unless_bad (bad_where bad.Limit (u || refuses l)) (given l))
+judged_before None true refuses l x e = absurd cc
+judged_before {L} None false refuses l x e = (let same : x ≡ l = cc in ap (λ (y : L). unless_bad (bad_where bad.Limit (refuses y)) (given y)) same)
+judged_before (Some w) u refuses l x e = absurd cc
 
 refused : {L : Type 0} (b : Bool) (x : L) (r : Result L BadWord) → b ≡ true → unless_bad (bad_where bad.Limit b) (given x) ≡ r → Err bad.Limit ≡ r
 refused true x r is h = h
@@ -42,8 +61,25 @@ taken : {L : Type 0} (b : Bool) (x : L) (r : Result L BadWord) → b ≡ false �
 taken true x r is h = absurd cc
 taken false x r is h = h
 
-pub whole_bad : {L : Type 0} (fields : List Test) (refuses : L → Bool) (line : List (List ℕ) → L) (args : List (List ℕ)) (x : L) → given x ≡ fields_line fields line args → refuses x ≡ true → Err bad.Limit ≡ whole_line fields (λ ws. bad_where bad.Limit (refuses (line ws))) line args
-whole_bad fields refuses line args x e is = refused (refuses x) x _ is (whole_judged fields refuses line args x e)
+module _ {L : Type 0} (fields : List Test) (unfit refuses : L → Bool) (line : List (List ℕ) → L) (args : List (List ℕ)) where
+  -- what refuses a line in each text
+  abbrev pub Judged : Result L BadWord → Type 0
+  Judged r = r ≡ whole_line fields (λ ws. bad_where bad.Limit (unfit (line ws))) line args
 
-pub whole_good : {L : Type 0} (fields : List Test) (refuses : L → Bool) (line : List (List ℕ) → L) (args : List (List ℕ)) (x : L) → given x ≡ fields_line fields line args → refuses x ≡ false → given x ≡ whole_line fields (λ ws. bad_where bad.Limit (refuses (line ws))) line args
-whole_good fields refuses line args x e is = taken (refuses x) x _ is (whole_judged fields refuses line args x e)
+  -- and what refuses it in this one
+  abbrev pub JudgedHere : Result L BadWord → Type 0
+  JudgedHere r = r ≡ whole_line fields (λ ws. bad_where bad.Limit (unfit (line ws) || refuses (line ws))) line args
+
+  -- what is refused in each text is refused here
+  pub refused_here : (w : BadWord) → Judged (Err w) → JudgedHere (Err w)
+  refused_here w e = limit_before (first_of (field_tests fields args)) (unfit (line args)) (refuses (line args)) (line args) w e
+
+  -- a line that is taken elsewhere is refused where it is refused here
+  judged_here : (x : L) → Judged (given x) → JudgedHere (unless_bad (bad_where bad.Limit (refuses x)) (given x))
+  judged_here x e = judged_before (first_of (field_tests fields args)) (unfit (line args)) refuses (line args) x e
+
+  pub whole_bad : (x : L) → Judged (given x) → refuses x ≡ true → JudgedHere (Err bad.Limit)
+  whole_bad x e is = refused (refuses x) x _ is (judged_here x e)
+
+  pub whole_good : (x : L) → Judged (given x) → refuses x ≡ false → JudgedHere (given x)
+  whole_good x e is = taken (refuses x) x _ is (judged_here x e)

@@ -2,11 +2,11 @@
 use Rattle.std.specs.Prelude.{◌≡◌, ℕ, ◌==◌, if◌then◌else◌, true, false, List, length, replicate, Some, None, Result, slice_set}
 use Rattle.ff_ids.specs.declared.TheConstants.{MEMBERS}
 use Rattle.lms_tree.specs.declared.key.PublicKey.{PublicKey}
-use Rattle.lms_tree.specs.Lms.{public_of}
 use Rattle.records.specs.declared.Body.{Body}
 use Rattle.records.specs.declared.Body.TheVariants.{Certificate}
 use Rattle.records.specs.declared.CertBody.{CertBody}
-use Rattle.records.specs.declared.keys.Key.TheVariants as keys
+use Rattle.sign_keys.specs.Keys.{public_key, secret_of}
+use Rattle.sign_keys.specs.Kinds.{is_in_profile}
 use Rattle.line_text.specs.declared.bad_word.BadWord.{BadWord}
 use Rattle.line_text.specs.Answers.{Progress, next_line}
 use Rattle.line_text.specs.Frame as frame
@@ -18,8 +18,9 @@ use Rattle.schedule_texts.specs.declared.kit_line.KitLine.{KitLine}
 use Rattle.schedule_texts.specs.declared.kit_line.KitLine.TheVariants as lines
 use Rattle.schedule_texts.specs.KitRows.{is_ended, kit_table, row_for}
 
--- What holds of each value that a reader reaches: there is a place for each number of a member.
+-- What holds of each value that a reader reaches: there are keys of the kinds, and there is a place for each number of a member.
 abbrev pub IsSound : KitText → Type 0
+IsSound (kit.Kinded g kinds) = is_in_profile kinds ≡ true
 IsSound (kit.Body owner authority named own) = length named ≡ MEMBERS
 IsSound _ = Unit {0}
 
@@ -47,7 +48,7 @@ abbrev pub after : KitText → KitLine → KitText
 after form lines.Header = kit.Headed
 after form (lines.Group g) = kit.Grouped g
 after (kit.Grouped g) (lines.Kinds kinds) = kit.Kinded g kinds
-after (kit.Kinded g kinds) (lines.Own m secret own_key) = kit.Owned (record { group = g; member = m; key = keys.Lms (public_of own_key) })
+after (kit.Kinded g kinds) (lines.Own m secret own_key) = kit.Owned (record { group = g; member = m; key = public_key (secret_of own_key) })
 after (kit.Owned owner) (lines.Authority authority) = kit.Authorized owner authority
 after (kit.Authorized owner authority) (lines.Tick millis) = nobody owner authority
 after form (lines.Cert c) = certified_by c.rec.body form

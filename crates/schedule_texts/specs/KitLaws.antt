@@ -1,9 +1,11 @@
 -- What is taken as a line of a member's text is one by its grammar, and what is one is taken.
 use Rattle.std.proofs.Common.{◌≡◌, ℕ, Bool, true, false, not, List, ◌∷◌, Option, Some, None, Result, Ok, Err, refl}
 use Rattle.std.specs.Prelude.{is_ok}
-use Rattle.std.proofs.lemmas.Bool.{and_parts, not-false, not-true}
+use Rattle.std.proofs.lemmas.Bool.{false≢true, and_parts, not-false, not-true}
 use Rattle.std.proofs.lemmas.Slice.Eq.{bytes_eq-Decides}
 use Rattle.ff_ids.specs.declared.Group.{Group}
+use Rattle.sign_keys.specs.declared.kinds.Kinds.{Kinds}
+use Rattle.sign_keys.specs.Kinds.{is_in_profile}
 use Rattle.lms_tree.specs.declared.key.PublicKey.{PublicKey}
 use Rattle.records.specs.declared.Body.TheVariants.{Certificate}
 use Rattle.records.specs.declared.keys.Key.{Key}
@@ -21,6 +23,7 @@ use Rattle.schedule_texts.specs.Shared.{cert_of}
 use Rattle.schedule_texts.specs.declared.kit.KitText.{KitText}
 use Rattle.schedule_texts.specs.declared.kit.KitText.TheVariants as kit
 use Rattle.schedule_texts.specs.declared.kit_line.KitLine.{KitLine}
+use Rattle.schedule_texts.specs.declared.kit_line.KitLine.TheVariants as lines
 use Rattle.schedule_texts.specs.declared.kit_line.LineWord.{LineWord}
 use Rattle.schedule_texts.specs.declared.kit_line.LineWord.TheVariants as words
 use Rattle.schedule_texts.specs.KitRows.{cert_fault, end_fault, fields, is_named, kit_table, line, line_word, parts, reads, row_for, row_of, word_text}
@@ -57,6 +60,11 @@ kit-reads (kit.Body owner authority named own) words.End args = refl
 kit-reads _ _ args = refl
 
 -- ## Lines that nothing refuses as a whole
+
+-- There are keys of the kinds of a line.
+pub kit-kinds : (form : KitText) (ws : List (List ℕ)) (k : Kinds) → IsKit form ws (lines.Kinds k) → is_in_profile k ≡ true
+kit-kinds (kit.Grouped g) ws k h = not-false (is_in_profile k) (passed bad.Limit (not (is_in_profile k)) h.whole)
+kit-kinds _ ws k h = absurd (false≢true h.stands)
 
 -- The number of the certificate has none yet, and the signature is good.
 pub record IsNewlySigned (g : Group) (authority : PublicKey) (named : List Bool) (vs : Values (fields words.Cert)) : Type 0 where

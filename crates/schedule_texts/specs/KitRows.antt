@@ -6,7 +6,6 @@ use Rattle.ff_ids.specs.declared.Group.{Group}
 use Rattle.lms_ots.specs.declared.kind.OtsKind.TheVariants.{W1}
 use Rattle.lms_tree.specs.declared.kind.TreeKind.TheVariants.{H5}
 use Rattle.lms_tree.specs.declared.key.PublicKey.{PublicKey}
-use Rattle.lms_tree.specs.declared.secret.Secret.{Secret}
 use Rattle.records.specs.declared.Body.{Body}
 use Rattle.records.specs.declared.Body.TheVariants.{Certificate}
 use Rattle.records.specs.declared.CertBody.{CertBody}
@@ -14,6 +13,9 @@ use Rattle.records.specs.declared.keys.Key.{Key}
 use Rattle.records.specs.declared.keys.Key.TheVariants as keys
 use Rattle.records.specs.Keys.{key_bytes, verdict_of}
 use Rattle.records.specs.Signing.{CheckedRecord, signed_bytes}
+use Rattle.sign_keys.specs.declared.kinds.Kinds.{Kinds}
+use Rattle.sign_keys.specs.declared.key.SignKey.{SignKey}
+use Rattle.sign_keys.specs.Keys.{new_key}
 use Rattle.secrets.specs.Secrets.{key_from}
 use Rattle.line_text.specs.declared.bad_word.BadWord.{BadWord}
 use Rattle.line_text.specs.declared.bad_word.BadWord.TheVariants as bad
@@ -22,8 +24,7 @@ use Rattle.line_text.specs.Frame.{Row, fields_line, whole_line, word_among}
 use Rattle.line_text.specs.Shapes.{◌and◌, Field, Fields, Makes, Values, bytes_from, bytes_of, line_from, no_more, number_from, test, tests, values}
 use Rattle.line_text.specs.Tables as table
 use Rattle.line_text.specs.Tables.{Header, Line, Parts, Table}
-use Rattle.schedule_texts.specs.declared.line.Kinds.{Kinds}
-use Rattle.schedule_texts.specs.Shared.{any_lms_key, cert_of, group_fields, group_in, group_of, group_shape, group_values, key_field, lms_key_field, kinds_fields, kinds_in, kinds_of, kinds_shape, kinds_values, port_field}
+use Rattle.schedule_texts.specs.Shared.{any_lms_key, cert_of, group_fields, group_in, group_of, group_shape, group_values, key_field, lms_key_field, kinds_fault, kinds_fault_in, kinds_fields, kinds_in, kinds_of, kinds_shape, kinds_values, port_field}
 use Rattle.schedule_texts.specs.declared.kit.KitText.{KitText}
 use Rattle.schedule_texts.specs.declared.kit.KitText.TheVariants as kit
 use Rattle.schedule_texts.specs.declared.kit_line.KitLine.{KitLine}
@@ -102,8 +103,9 @@ is_owned own_key (Some k) = bytes_eq (key_bytes k) (key_bytes own_key)
 abbrev pub end_fault : Key → Option Key → Option BadWord
 end_fault own_key own = bad_where bad.OwnKey (not (is_owned own_key own))
 
--- A certificate with a fault is refused, and an end where the own certificate is missing.
+-- Kinds of which there are no keys are refused, a certificate with a fault, and an end where the own certificate is missing.
 abbrev pub whole_fault : KitText → (word : LineWord) → Values (fields word) → Option BadWord
+whole_fault (kit.Grouped g) words.Kinds vs = kinds_fault vs
 whole_fault (kit.Body owner authority named own) words.Cert vs =
     cert_fault owner.group authority named vs
 whole_fault (kit.Body owner authority named own) words.End vs = end_fault owner.key own
@@ -112,9 +114,9 @@ whole_fault form _ vs = None
 -- ## What line they are
 
 -- the key that the own secret gives; above the kinds, where no secret may stand, one of some kinds
-abbrev pub own_key : KitText → List ℕ → Secret
-own_key (kit.Kinded g kinds) secret = key_from kinds.ots kinds.tree secret
-own_key form secret = key_from W1 H5 secret
+abbrev pub own_key : KitText → List ℕ → SignKey
+own_key (kit.Kinded g kinds) secret = new_key (key_from kinds secret)
+own_key form secret = new_key (key_from (kinds_of W1 H5 None) secret)
 
 -- a certificate, as what was checked under the authority's key in the group
 abbrev pub checked_as : Group → PublicKey → CertBody → List ℕ → CheckedRecord
@@ -133,7 +135,7 @@ authority_above form = any_lms_key
 abbrev pub line : (form : KitText) (word : LineWord) → Makes (fields word) KitLine
 line form words.Group = λ t timeout period misses tag.
     lines.Group (group_of t timeout period misses tag)
-line form words.Kinds = λ wide high. lines.Kinds (kinds_of wide high)
+line form words.Kinds = λ wide high low. lines.Kinds (kinds_of wide high low)
 line form words.Own = λ m secret. lines.Own m secret (own_key form secret)
 line form words.Authority = λ key. lines.Authority key
 line form words.Tick = λ millis. lines.Tick millis
@@ -197,7 +199,7 @@ fields_of word = tests (fields word)
 
 abbrev pub own_line : Kinds → List (List ℕ) → KitLine
 own_line kinds args =
-    line_from (fields words.Own) (λ m secret. lines.Own m secret (key_from kinds.ots kinds.tree secret)) args
+    line_from (fields words.Own) (λ m secret. lines.Own m secret (new_key (key_from kinds secret))) args
 
 abbrev pub authority_line : List (List ℕ) → KitLine
 authority_line args = line_from (fields words.Authority) (line kit.Start words.Authority) args
@@ -216,7 +218,7 @@ cert_fault_in g authority named args = cert_fault g authority named (values (fie
 abbrev pub reads : KitText → LineWord → List (List ℕ) → Result KitLine BadWord
 reads kit.Headed words.Group args = fields_line group_fields (λ ws. lines.Group (group_in ws)) args
 reads (kit.Grouped g) words.Kinds args =
-    fields_line kinds_fields (λ ws. lines.Kinds (kinds_in ws)) args
+    whole_line (kinds_fields args) kinds_fault_in (λ ws. lines.Kinds (kinds_in ws)) args
 reads (kit.Kinded g kinds) words.Own args = fields_line (fields_of words.Own) (own_line kinds) args
 reads (kit.Owned owner) words.Authority args =
     fields_line (fields_of words.Authority) authority_line args

@@ -1,6 +1,6 @@
 -- The table of the text that moves the store of a key to another group. Its lines are those of a secret's text, with one more
 -- group before the kinds.
-use Rattle.std.specs.Prelude.{ℕ, Bool, true, false, ◌&&◌, ◌==◌, List, Option, Result, Err, codes, bytes_eq, if◌then◌else◌}
+use Rattle.std.specs.Prelude.{ℕ, Bool, true, false, ◌&&◌, ◌||◌, ◌==◌, List, Option, Result, Err, codes, bytes_eq, if◌then◌else◌}
 use Rattle.line_text.specs.declared.bad_word.BadWord.{BadWord}
 use Rattle.line_text.specs.declared.bad_word.BadWord.TheVariants as bad
 use Rattle.line_text.specs.Fields.{bad_where}
@@ -15,7 +15,7 @@ use Rattle.schedule_texts.specs.declared.migrate.MigrateText.TheVariants as migr
 use Rattle.schedule_texts.specs.declared.secret.LineWord.{LineWord}
 use Rattle.schedule_texts.specs.declared.secret.LineWord.TheVariants as words
 use Rattle.schedule_texts.specs.SecretRows as secret
-use Rattle.schedule_texts.specs.SecretRows.{fields, fields_of, line, line_of, line_words, parts, word_text}
+use Rattle.schedule_texts.specs.SecretRows.{fields, fields_of, is_unfit, line, line_of, line_words, parts, word_text}
 
 abbrev pub is_start : MigrateText → Bool
 is_start migrate.Start = true
@@ -38,9 +38,9 @@ abbrev pub stays : MigrateText → SecretLine → Bool
 stays (migrate.Left old) (lines.Group g) = g.t == old.t && bytes_eq g.tag old.tag
 stays form l = false
 
--- Such a group is refused as a whole, and nothing else is.
+-- Such a group is refused as a whole, so are the kinds of which there are no keys, and nothing else is.
 abbrev pub line_fault : MigrateText → SecretLine → Option BadWord
-line_fault form l = bad_where bad.Limit (stays form l)
+line_fault form l = bad_where bad.Limit (is_unfit l || stays form l)
 
 abbrev pub migrate_table : Table MigrateText LineWord SecretLine
 migrate_table = record {
@@ -62,7 +62,7 @@ migrate_table = record {
 -- what the words behind a line word are read as
 abbrev pub reads : MigrateText → LineWord → List (List ℕ) → Result SecretLine BadWord
 reads form word args =
-    if may_stand form word then whole_line (fields_of word) (λ ws. line_fault form (line_of word ws)) (line_of word) args
+    if may_stand form word then whole_line (fields_of word args) (λ ws. line_fault form (line_of word ws)) (line_of word) args
     else Err bad.Order
 
 abbrev pub row_for : MigrateText → List (List ℕ) → Result (Row SecretLine) BadWord

@@ -15,7 +15,7 @@ use Rattle.schedule_texts.specs.declared.roster.RosterText.{RosterText}
 use Rattle.schedule_texts.specs.declared.roster.RosterText.TheVariants as roster
 use Rattle.schedule_texts.specs.declared.roster.LineWord.{LineWord}
 use Rattle.schedule_texts.specs.declared.roster.LineWord.TheVariants as words
-use Rattle.schedule_texts.specs.Shared.{cert_of, group_of, group_shape, group_values, key_field, kinds_of, kinds_shape, kinds_values, port_field, secret_shape}
+use Rattle.schedule_texts.specs.Shared.{cert_of, group_of, group_shape, group_values, key_field, one_level_of, one_level_shape, one_level_values, port_field, secret_shape}
 
 abbrev pub is_start : RosterText → Bool
 is_start roster.Start = true
@@ -58,14 +58,14 @@ cert_in args = line_from (cert_shape roster.Start) cert_of args
 
 abbrev pub fields : RosterText → LineWord → Fields
 fields form words.Group = group_shape
-fields form words.Kinds = kinds_shape
+fields form words.Kinds = one_level_shape
 fields form words.Secret = secret_shape
 fields form words.Cert = cert_shape form
 fields form words.End = no_more
 
 abbrev pub line : (form : RosterText) (word : LineWord) → Makes (fields form word) RosterLine
 line form words.Group = λ t timeout period misses tag. lines.Group (group_of t timeout period misses tag)
-line form words.Kinds = λ wide high. lines.Kinds (kinds_of wide high)
+line form words.Kinds = λ wide high. lines.Kinds (one_level_of wide high)
 line form words.Secret = λ bytes. lines.Secret bytes
 line form words.Cert = λ m at own. lines.Cert (cert_of m at own)
 line form words.End = lines.End
@@ -73,7 +73,7 @@ line form words.End = lines.End
 abbrev pub parts : (form : RosterText) → RosterLine → Parts LineWord (fields form)
 parts form lines.Header = Header
 parts form (lines.Group g) = Line words.Group (group_values g)
-parts form (lines.Kinds k) = Line words.Kinds (kinds_values k)
+parts form (lines.Kinds k) = Line words.Kinds (one_level_values k)
 parts form (lines.Secret bytes) = Line words.Secret (bytes, tt)
 parts form (lines.Cert c) = Line words.Cert (c.member, (c.port, (c.key, tt)))
 parts form lines.End = Line words.End tt

@@ -1,15 +1,20 @@
 -- What is taken as a line of a secret's text is one by its grammar, and what is one is taken.
-use Rattle.std.proofs.Common.{◌≡◌, ℕ, List, ◌∷◌, Some, Ok, Err, refl, ap, if◌then◌else◌}
+use Rattle.std.proofs.Common.{◌≡◌, ℕ, true, not, List, ◌∷◌, Some, Ok, Err, refl, ap, if◌then◌else◌}
+use Rattle.std.proofs.lemmas.Bool.{not-false}
+use Rattle.sign_keys.specs.declared.kinds.Kinds.{Kinds}
+use Rattle.sign_keys.specs.Kinds.{is_in_profile}
 use Rattle.line_text.specs.declared.bad_word.BadWord.TheVariants as bad
-use Rattle.line_text.specs.Frame.{fields_line, row_line}
+use Rattle.line_text.specs.Frame.{row_line, whole_line}
 use Rattle.line_text.specs.Shapes.{Values, line_from, made_of}
 use Rattle.line_text.specs.Tables.{IsSound as IsSoundTable, Line, row_of}
+use Rattle.line_text.proofs.FrameLemmas.{passed}
 use Rattle.line_text.proofs.TableLemmas.{table-spelled, table-taken}
 use Rattle.schedule_texts.specs.declared.line.SecretLine.{SecretLine}
+use Rattle.schedule_texts.specs.declared.line.SecretLine.TheVariants as lines
 use Rattle.schedule_texts.specs.declared.secret.SecretText.{SecretText}
 use Rattle.schedule_texts.specs.declared.secret.LineWord.{LineWord}
 use Rattle.schedule_texts.specs.declared.secret.LineWord.TheVariants as words
-use Rattle.schedule_texts.specs.SecretRows.{fields, fields_of, line, line_of, line_word, may_stand, parts, reads, row_for, secret_table, word_text}
+use Rattle.schedule_texts.specs.SecretRows.{fields, fields_of, line, line_fault, line_of, line_word, may_stand, parts, reads, row_for, secret_table, word_text}
 use Rattle.schedule_texts.specs.SecretGrammar.{IsSecret, IsSound}
 
 -- Each line word is found by its text.
@@ -40,4 +45,8 @@ line_is _ = refl
 
 -- What is read is what the table says.
 pub secret-reads : (form : SecretText) (word : LineWord) (args : List (List ℕ)) → reads form word args ≡ row_line (Ok (row_of secret_table form word)) args
-secret-reads form word args = ap (λ (of : List (List ℕ) → SecretLine). if may_stand form word then fields_line (fields_of word) of args else Err bad.Order) (line_is word)
+secret-reads form word args = ap (λ (of : List (List ℕ) → SecretLine). if may_stand form word then whole_line (fields_of word args) (λ ws. line_fault (of ws)) of args else Err bad.Order) (line_is word)
+
+-- There are keys of the kinds of a line.
+pub secret-kinds : (form : SecretText) (ws : List (List ℕ)) (k : Kinds) → IsSecret form ws (lines.Kinds k) → is_in_profile k ≡ true
+secret-kinds form ws k h = not-false (is_in_profile k) (passed bad.Limit (not (is_in_profile k)) h.whole)

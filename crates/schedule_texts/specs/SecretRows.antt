@@ -1,12 +1,13 @@
 -- The table of the text that makes the store of an authority's key.
-use Rattle.std.specs.Prelude.{ℕ, Bool, true, false, List, [], ◌∷◌, Option, None, Result, Err, codes, if◌then◌else◌}
+use Rattle.std.specs.Prelude.{ℕ, Bool, true, false, not, List, [], ◌∷◌, Option, Result, Err, codes, if◌then◌else◌}
 use Rattle.line_text.specs.declared.bad_word.BadWord.{BadWord}
 use Rattle.line_text.specs.declared.bad_word.BadWord.TheVariants as bad
-use Rattle.line_text.specs.Fields.{Test}
-use Rattle.line_text.specs.Frame.{Row, fields_line, word_among}
-use Rattle.line_text.specs.Shapes.{Fields, Makes, line_from, no_more, tests}
+use Rattle.line_text.specs.Fields.{Test, bad_where}
+use Rattle.line_text.specs.Frame.{Row, whole_line, word_among}
+use Rattle.line_text.specs.Shapes.{Fields, Makes, line_from, made_of, no_more, tests_for}
 use Rattle.line_text.specs.Tables as table
 use Rattle.line_text.specs.Tables.{Header, Line, Parts, Table}
+use Rattle.sign_keys.specs.Kinds.{is_in_profile}
 use Rattle.schedule_texts.specs.declared.line.SecretLine.{SecretLine}
 use Rattle.schedule_texts.specs.declared.line.SecretLine.TheVariants as lines
 use Rattle.schedule_texts.specs.declared.secret.SecretText.{SecretText}
@@ -39,9 +40,18 @@ fields words.End = no_more
 
 abbrev pub line : (word : LineWord) → Makes (fields word) SecretLine
 line words.Group = λ t timeout period misses tag. lines.Group (group_of t timeout period misses tag)
-line words.Kinds = λ wide high. lines.Kinds (kinds_of wide high)
+line words.Kinds = λ wide high low. lines.Kinds (kinds_of wide high low)
 line words.Secret = λ bytes. lines.Secret bytes
 line words.End = lines.End
+
+-- There are no keys of its kinds.
+abbrev pub is_unfit : SecretLine → Bool
+is_unfit (lines.Kinds k) = not (is_in_profile k)
+is_unfit l = false
+
+-- Such kinds are refused as a whole, and nothing else is.
+abbrev pub line_fault : SecretLine → Option BadWord
+line_fault l = bad_where bad.Limit (is_unfit l)
 
 abbrev pub parts : SecretLine → Parts LineWord fields
 parts lines.Header = Header
@@ -69,7 +79,7 @@ secret_table = record {
   text = word_text;
   may_stand = may_stand;
   fields = λ form. fields;
-  whole_fault = λ form word values. None;
+  whole_fault = λ form word vs. line_fault (made_of (fields word) (line word) vs);
   line = λ form. line;
   parts = λ form. parts;
 }
@@ -80,8 +90,8 @@ secret_table = record {
 abbrev pub line_word : List ℕ → Option LineWord
 line_word word = word_among word_text line_words word
 
-abbrev pub fields_of : LineWord → List Test
-fields_of word = tests (fields word)
+abbrev pub fields_of : LineWord → List (List ℕ) → List Test
+fields_of word args = tests_for (fields word) args
 
 abbrev pub line_of : LineWord → List (List ℕ) → SecretLine
 line_of words.End args = lines.End
@@ -90,7 +100,8 @@ line_of word args = line_from (fields word) (line word) args
 -- what the words behind a line word are read as
 abbrev pub reads : SecretText → LineWord → List (List ℕ) → Result SecretLine BadWord
 reads form word args =
-    if may_stand form word then fields_line (fields_of word) (line_of word) args else Err bad.Order
+    if may_stand form word then whole_line (fields_of word args) (λ ws. line_fault (line_of word ws)) (line_of word) args
+    else Err bad.Order
 
 abbrev pub row_for : SecretText → List (List ℕ) → Result (Row SecretLine) BadWord
 row_for form ws = table.row_for secret_table form ws

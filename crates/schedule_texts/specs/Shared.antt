@@ -1,5 +1,5 @@
 -- The fields that the lines of several texts have, and what their values make.
-use Rattle.std.specs.Prelude.{◌≡◌, ℕ, ◌≤◌, List, [], length}
+use Rattle.std.specs.Prelude.{◌≡◌, ℕ, ◌≤◌, not, List, [], length, Option, Some, None}
 use Rattle.ff_ids.specs.declared.TheConstants.{MAX_TOLERANCE}
 use Rattle.ff_ids.specs.declared.Group.{Group}
 use Rattle.lms_ots.specs.Ots as ots
@@ -17,9 +17,12 @@ use Rattle.records.specs.declared.keys.Key.TheVariants as keys
 use Rattle.records.specs.Keys.{AreKey, key_in}
 use Rattle.records.proofs.KeyParts.{key-again, key-are}
 use Rattle.records.specs.declared.CertBody.{CertBody}
-use Rattle.line_text.specs.Fields.{Test}
-use Rattle.line_text.specs.Shapes.{◌and◌, Field, Fields, Values, bytes_as, bytes_of, line_from, no_more, number_as, number_from, test, tests, value}
-use Rattle.schedule_texts.specs.declared.line.Kinds.{Kinds}
+use Rattle.sign_keys.specs.declared.kinds.Kinds.{Kinds}
+use Rattle.sign_keys.specs.Kinds.{is_in_profile}
+use Rattle.line_text.specs.declared.bad_word.BadWord.{BadWord}
+use Rattle.line_text.specs.declared.bad_word.BadWord.TheVariants as bad
+use Rattle.line_text.specs.Fields.{Test, bad_where}
+use Rattle.line_text.specs.Shapes.{◌and◌, Field, Fields, Values, bytes_as, bytes_of, line_from, made_of, maybe, no_more, number_as, number_from, test, tests, tests_for, value}
 use Rattle.schedule_texts.specs.KindTables.{ots_wide, tree_high}
 pub use Rattle.schedule_texts.specs.KindTables.{ots_of_width, tree_of_height}
 
@@ -75,21 +78,63 @@ height word = test height_field word
 abbrev pub tree_in_word : List ℕ → TreeKind
 tree_in_word word = value height_field word
 
--- W H
+-- W H, or W H H1
 abbrev pub kinds_shape : Fields
-kinds_shape = width_field and height_field and no_more
+kinds_shape = width_field and height_field and maybe height_field
 
-abbrev pub kinds_of : OtsKind → TreeKind → Kinds
-kinds_of wide high = record { ots = wide; tree = high }
+abbrev pub kinds_of : OtsKind → TreeKind → Option TreeKind → Kinds
+kinds_of wide high low = record { ots = wide; tree = high; bottom = low }
 
 abbrev pub kinds_values : Kinds → Values kinds_shape
-kinds_values k = (k.ots, (k.tree, tt))
+kinds_values k = (k.ots, (k.tree, k.bottom))
 
-abbrev pub kinds_fields : List Test
-kinds_fields = tests kinds_shape
+abbrev pub kinds_fields : List (List ℕ) → List Test
+kinds_fields args = tests_for kinds_shape args
 
 abbrev pub kinds_in : List (List ℕ) → Kinds
 kinds_in args = line_from kinds_shape kinds_of args
+
+-- there are no keys of these kinds
+abbrev pub unfit : Kinds → Option BadWord
+unfit k = bad_where bad.Limit (not (is_in_profile k))
+
+abbrev pub kinds_fault : Values kinds_shape → Option BadWord
+kinds_fault vs = unfit (made_of kinds_shape kinds_of vs)
+
+abbrev pub kinds_fault_in : List (List ℕ) → Option BadWord
+kinds_fault_in args = unfit (kinds_in args)
+
+-- W H: of a key of one level
+abbrev pub one_level_shape : Fields
+one_level_shape = width_field and height_field and no_more
+
+abbrev pub one_level_of : OtsKind → TreeKind → Kinds
+one_level_of wide high = kinds_of wide high None
+
+abbrev pub one_level_values : Kinds → Values one_level_shape
+one_level_values k = (k.ots, (k.tree, tt))
+
+abbrev pub one_level_fields : List Test
+one_level_fields = tests one_level_shape
+
+abbrev pub one_level_in : List (List ℕ) → Kinds
+one_level_in args = line_from one_level_shape one_level_of args
+
+-- W H H1: of a key of two levels
+abbrev pub two_level_shape : Fields
+two_level_shape = width_field and height_field and height_field and no_more
+
+abbrev pub two_level_of : OtsKind → TreeKind → TreeKind → Kinds
+two_level_of wide high low = kinds_of wide high (Some low)
+
+abbrev pub two_level_fields : List Test
+two_level_fields = tests two_level_shape
+
+abbrev pub two_level_in : List (List ℕ) → Kinds
+two_level_in args = line_from two_level_shape two_level_of args
+
+abbrev pub two_level_fault : List (List ℕ) → Option BadWord
+two_level_fault args = unfit (two_level_in args)
 
 -- ## Secrets, ports and keys
 

@@ -9,11 +9,12 @@ ghost use Rattle.schedule_texts.specs.KitGrammar.{IsKit, IsSound, after, certifi
 use crate::kit_cert::cert_line;
 use crate::kit_line::{KitLine, LineWord};
 use crate::kit_read::{authority_line, line_word, own_line, tick_line};
-use crate::{Kinds, read_group, read_kinds};
+use crate::{read_group, read_kinds};
 use ff_ids::{Group, MEMBERS, MemberId};
 use line_text::{BadWord, Form, LineFault, TableForm, Words, judge_by_table};
 use lms_tree::PublicKey;
 use records::{Body, CertBody, Key};
+use sign_keys::Kinds;
 use std::alloc::Global;
 
 /// Whom the text is for.
@@ -236,7 +237,7 @@ impl Form for KitText {
                 owner: Owner {
                     group,
                     member: *member,
-                    key: Key::Lms(key.public()),
+                    key: key.public(),
                 },
             },
             (KitText::Owned { owner }, KitLine::Authority(authority)) => KitText::Authorized {

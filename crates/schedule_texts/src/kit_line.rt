@@ -1,9 +1,9 @@
 //! The lines that are read.
 
-use crate::Kinds;
 use ff_ids::{Group, MemberId};
-use lms_tree::{PublicKey, SecretKey};
+use lms_tree::PublicKey;
 use records::Checked;
+use sign_keys::{Kinds, SignKey};
 
 /// One line of the text.
 #[derive(Drop)]
@@ -13,14 +13,15 @@ pub enum KitLine {
     /// `group T TIMEOUT PERIOD MISSES TAG`: the tolerance, 1 to 31; the timeout in ticks, 1 to 10,000; the period,
     /// 1 to 1,000; the misses, 1 to 16; and the tag in 16 bytes.
     Group(Group),
-    /// `kinds W H`: the width, 1, 2, 4 or 8, and the height, 5, 10 or 15.
+    /// `kinds W H`: the width, 1, 2, 4 or 8, and the height, 5, 10 or 15. Or `kinds W H H1`, of a key of two levels:
+    /// H1 is the height of its bottom trees, its width is 4 or 8, and its heights are at most 15 together.
     Kinds(Kinds),
     /// `self M SECRET`: the own number and the own secret in 32 bytes; and the key of these kinds that the secret
-    /// gives.
+    /// gives, of which no index was handed out.
     Own {
         member: MemberId,
         secret: [u8; 32],
-        key: SecretKey,
+        key: SignKey,
     },
     /// `authority KEY`: a public key in 56 bytes.
     Authority(PublicKey),

@@ -1,16 +1,18 @@
 //! The lines that no earlier line decides, read word by word.
 
-ghost use Rattle.std.specs.Prelude.{◌≡◌, IfOk};
+ghost use Rattle.std.specs.Prelude.{◌≡◌, true, IfOk};
+ghost use Rattle.sign_keys.specs.Kinds.{is_in_profile};
 ghost use Rattle.line_text.specs.Answers.{AnswersBy, refusal};
 ghost use Rattle.line_text.specs.Fields.{number_in};
 ghost use Rattle.line_text.specs.Frame.{behind, fields_line, first_word, word_or_bad};
 ghost use Rattle.schedule_texts.specs.KitRows.{TakesMemory, authority_line, fields_of, line_word, member, own_line, tick_line};
 
 use crate::kit_line::{KitLine, LineWord};
-use crate::{Kinds, take_lms_key};
+use crate::take_lms_key;
 use ff_ids::{LAST_MEMBER, MemberId};
 use line_text::{BadWord, LineFault, Words};
 use secrets::make_key;
+use sign_keys::Kinds;
 use std::alloc::Global;
 
 /// The line word that a word is.
@@ -47,14 +49,16 @@ pub(crate) fn take_member(words: &mut Words) -> Result<MemberId, BadWord>
 }
 
 /// The own number and secret, and the key that it gives. The words are judged before memory is asked for.
+#[tactic(auto, using(sign_keys::proofs::NewKeys::is_new_key))]
 pub(crate) fn own_line(alloc: Global, kinds: Kinds, args: Words) -> Result<KitLine, LineFault>
+    requires { is_in_profile kinds ≡ true }
     ensures { AnswersBy TakesMemory
         (fields_line (fields_of LineWord.Own) (own_line kinds) args.entry) result }
 {
     let mut args = args.exactly(2)?;
     let member = take_member(&mut args)?;
     let secret = args.bytes::<32>()?;
-    match make_key(alloc, kinds.ots, kinds.tree, &secret) {
+    match make_key(alloc, kinds, &secret) {
         Ok(key) => Ok(KitLine::Own {
             member,
             secret,

@@ -16,8 +16,11 @@ mod shared;
 
 pub use kit::{KitText, Owner};
 pub use kit_line::KitLine;
-pub use line::{Kinds, RosterLine, SecretLine};
+pub use line::{RosterLine, SecretLine};
 pub use migrate::MigrateText;
 pub use roster::RosterText;
 pub use secret::SecretText;
-pub use shared::{read_group, read_kinds, read_secret, take_key, take_lms_key, take_port};
+pub use shared::{
+    read_group, read_kinds, read_one_level, read_secret, take_key, take_lms_key, take_port,
+};
+pub use sign_keys::Kinds;

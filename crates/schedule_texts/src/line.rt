@@ -1,16 +1,8 @@
 //! The lines that are read.
 
 use ff_ids::Group;
-use lms_ots::OtsKind;
-use lms_tree::TreeKind;
 use records::CertBody;
-
-/// The kinds of a key.
-#[derive(Clone, Copy, Debug, PartialEq, Eq)]
-pub struct Kinds {
-    pub ots: OtsKind,
-    pub tree: TreeKind,
-}
+use sign_keys::Kinds;
 
 /// One line of the text that makes the store of an authority's key, or of the text that moves a key's store to another
 /// group.
@@ -21,7 +13,8 @@ pub enum SecretLine {
     /// `group T TIMEOUT PERIOD MISSES TAG`: the tolerance, 1 to 31; the timeout in ticks, 1 to 10,000; the period,
     /// 1 to 1,000; the misses, 1 to 16; and the tag in 16 bytes.
     Group(Group),
-    /// `kinds W H`: the width, 1, 2, 4 or 8, and the height, 5, 10 or 15.
+    /// `kinds W H`: the width, 1, 2, 4 or 8, and the height, 5, 10 or 15. Or `kinds W H H1`, of a key of two levels:
+    /// H1 is the height of its bottom trees, its width is 4 or 8, and its heights are at most 15 together.
     Kinds(Kinds),
     /// `secret HEX`: 32 bytes.
     Secret([u8; 32]),
@@ -36,7 +29,7 @@ pub enum RosterLine {
     Header,
     /// `group T TIMEOUT PERIOD MISSES TAG`, as in the text of a secret.
     Group(Group),
-    /// `kinds W H`, as in the text of a secret.
+    /// `kinds W H`, as in the text of a secret: the authority's key has one level.
     Kinds(Kinds),
     /// `secret HEX`: the authority's, in 32 bytes.
     Secret([u8; 32]),

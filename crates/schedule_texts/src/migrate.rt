@@ -50,8 +50,8 @@ fn stays(form: &MigrateText, line: &SecretLine) -> bool
 
 /// The line of this line word, which stands here.
 fn line_here(form: &MigrateText, word: LineWord, args: Words) -> Result<SecretLine, BadWord>
-    ensures { result ≡ whole_line (fields_of word) (λ ws. line_fault form.now (line_of word ws))
-        (line_of word) args.entry }
+    ensures { result ≡ whole_line (fields_of word args.entry)
+        (λ ws. line_fault form.now (line_of word ws)) (line_of word) args.entry }
 {
     let line = line_of(word, args)?;
     if stays(form, &line) {

@@ -9,7 +9,7 @@ ghost use Rattle.schedule_texts.specs.RosterRows.{TakesMemory, cert_fields, cert
 ghost use Rattle.schedule_texts.specs.RosterGrammar.{IsRoster, IsSound, after, naming, nobody};
 
 use crate::line::RosterLine;
-use crate::shared::{read_group, read_kinds, read_secret, take_key, take_port};
+use crate::shared::{read_group, read_one_level, read_secret, take_key, take_port};
 use ff_ids::{LAST_MEMBER, MEMBERS, MemberId};
 use line_text::{BadWord, Form, LineFault, TableForm, Words, judge_by_table};
 use records::CertBody;
@@ -98,7 +98,7 @@ fn line_of(form: &RosterText, word: LineWord, args: Words) -> Result<RosterLine,
 {
     match word {
         LineWord::Group => Ok(RosterLine::Group(read_group(args)?)),
-        LineWord::Kinds => Ok(RosterLine::Kinds(read_kinds(args)?)),
+        LineWord::Kinds => Ok(RosterLine::Kinds(read_one_level(args)?)),
         LineWord::Secret => Ok(RosterLine::Secret(read_secret(args)?)),
         LineWord::Cert => Ok(RosterLine::Cert(read_cert(form, args)?)),
         LineWord::End => {

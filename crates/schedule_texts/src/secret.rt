@@ -1,8 +1,8 @@
 //! The text that makes the store of an authority's key, line by line.
 
 ghost use Rattle.std.specs.Prelude.{◌≡◌};
-ghost use Rattle.line_text.specs.Frame.{fields_line, word_or_bad};
-ghost use Rattle.schedule_texts.specs.SecretRows.{TakesMemory, fields_of, is_ended, line_of, line_word, may_stand, reads, row_for, secret_table};
+ghost use Rattle.line_text.specs.Frame.{whole_line, word_or_bad};
+ghost use Rattle.schedule_texts.specs.SecretRows.{TakesMemory, fields_of, is_ended, line_fault, line_of, line_word, may_stand, reads, row_for, secret_table};
 ghost use Rattle.schedule_texts.specs.SecretGrammar.{IsSecret, IsSound, after, text_behind};
 
 use crate::line::SecretLine;
@@ -68,7 +68,8 @@ pub(crate) fn may_stand(form: SecretText, word: LineWord) -> bool
 
 /// The line of this line word.
 pub(crate) fn line_of(word: LineWord, args: Words) -> Result<SecretLine, BadWord>
-    ensures { result ≡ fields_line (fields_of word) (line_of word) args.entry }
+    ensures { result ≡ whole_line (fields_of word args.entry) (λ ws. line_fault (line_of word ws))
+        (line_of word) args.entry }
 {
     match word {
         LineWord::Group => Ok(SecretLine::Group(read_group(args)?)),

@@ -1,17 +1,17 @@
 //! What the lines of several texts have in common, read word by word.
 
-ghost use Rattle.std.specs.Prelude.{◌≡◌, ◌<◌, IfOk, IfSome};
+ghost use Rattle.std.specs.Prelude.{◌≡◌, ◌<◌, IfOk, IfSome, length};
 ghost use Rattle.line_text.specs.Answers.{refusal};
 ghost use Rattle.line_text.specs.Fields.{number_in};
-ghost use Rattle.line_text.specs.Frame.{behind, fields_line, first_word};
-ghost use Rattle.schedule_texts.specs.Shared.{group_fields, group_in, height, key, key_in_word, lms_key, lms_key_in_word, kinds_fields, kinds_in, ots_in_word, ots_of_width, port, secret_fields, secret_in, tree_in_word, tree_of_height, width};
+ghost use Rattle.line_text.specs.Frame.{behind, fields_line, first_word, whole_line};
+ghost use Rattle.schedule_texts.specs.Shared.{group_fields, group_in, height, key, key_in_word, lms_key, lms_key_in_word, kinds_fault_in, kinds_fields, kinds_in, one_level_fields, one_level_in, ots_in_word, ots_of_width, port, secret_fields, secret_in, tree_in_word, tree_of_height, two_level_fault, two_level_fields, two_level_in, width};
 
-use crate::line::Kinds;
 use ff_ids::{Group, MAX_TOLERANCE};
 use line_text::{BadWord, Words};
 use lms_ots::OtsKind;
 use lms_tree::{PublicKey, TreeKind};
 use records::Key;
+use sign_keys::Kinds;
 
 /// The group that the words behind `group` are.
 pub fn read_group(args: Words) -> Result<Group, BadWord>
@@ -79,14 +79,46 @@ fn take_height(words: &mut Words) -> Result<TreeKind, BadWord>
     tree_of_height(number).ok_or(BadWord::Limit)
 }
 
-/// The kinds that the words behind `kinds` are.
-pub fn read_kinds(args: Words) -> Result<Kinds, BadWord>
-    ensures { result ≡ fields_line kinds_fields kinds_in args.entry }
+/// The kinds of a key of one level that the words behind `kinds` are.
+pub fn read_one_level(args: Words) -> Result<Kinds, BadWord>
+    ensures { result ≡ fields_line one_level_fields one_level_in args.entry }
 {
     let mut args = args.exactly(2)?;
     let ots = take_width(&mut args)?;
     let tree = take_height(&mut args)?;
-    Ok(Kinds { ots, tree })
+    Ok(Kinds {
+        ots,
+        tree,
+        bottom: None,
+    })
+}
+
+/// The kinds of a key of two levels that the words are.
+fn read_two_levels(args: Words) -> Result<Kinds, BadWord>
+    ensures { result ≡ whole_line two_level_fields two_level_fault two_level_in args.entry }
+{
+    let mut args = args.exactly(3)?;
+    let ots = take_width(&mut args)?;
+    let tree = take_height(&mut args)?;
+    let bottom = Some(take_height(&mut args)?);
+    let kinds = Kinds { ots, tree, bottom };
+    if kinds.is_in_profile() {
+        Ok(kinds)
+    } else {
+        Err(BadWord::Limit)
+    }
+}
+
+/// The kinds that the words behind `kinds` are: of a key of one level, or of two.
+#[tactic(auto, using(crate::proofs::KindLemmas::kinds_short, crate::proofs::KindLemmas::kinds_long))]
+pub fn read_kinds(args: Words) -> Result<Kinds, BadWord>
+    ensures { result ≡ whole_line (kinds_fields args.entry) kinds_fault_in kinds_in args.entry }
+{
+    if args.count() == 3 {
+        read_two_levels(args)
+    } else {
+        read_one_level(args)
+    }
 }
 
 /// The secret that the word behind `secret` is.
@@ -121,13 +153,31 @@ pub fn take_lms_key(words: &mut Words) -> Result<PublicKey, BadWord>
     }
 }
 
-/// Takes the public key of a member.
+/// Takes a key of two levels, whose word has 120 digits.
+#[tactic(auto, using(crate::proofs::FieldLemmas::no_long_key))]
+fn take_long_key(words: &mut Words) -> Result<Key, BadWord>
+    requires { length (first_word words.old) ≡ 120 }
+    ensures refused { key (first_word words.old) ≡ refusal result }
+    ensures value { IfOk result (λ k. k ≡ key_in_word (first_word words.old)) }
+    ensures moved { words.new ≡ behind words.old }
+{
+    let bytes = words.bytes::<60>()?;
+    match Key::read(&bytes) {
+        Ok(key) => Ok(key),
+        Err(_) => Err(BadWord::Limit),
+    }
+}
+
+/// Takes the public key of a member: of two levels where its word has 120 digits, and else of one.
 #[tactic(auto, using(crate::proofs::FieldLemmas::no_key))]
 pub fn take_key(words: &mut Words) -> Result<Key, BadWord>
     ensures refused { key (first_word words.old) ≡ refusal result }
     ensures value { IfOk result (λ k. k ≡ key_in_word (first_word words.old)) }
     ensures moved { words.new ≡ behind words.old }
 {
+    if words.next_length() == 120 {
+        return take_long_key(words);
+    }
     let bytes = words.bytes::<56>()?;
     match Key::read(&bytes) {
         Ok(key) => Ok(key),

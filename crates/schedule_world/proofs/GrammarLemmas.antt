@@ -1,11 +1,11 @@
 -- What the grammar of the world form says of a line.
-use Rattle.std.proofs.Common.{◌≡◌, ℕ, ◌+◌, ◌^◌, ◌<◌, ◌≤◌, Bool, true, false, leb, eqb, List, length, Option, Some, None, refl, subst, ◌∙◌, arith, codes, lt-ltb, ltb-true}
+use Rattle.std.proofs.Common.{◌≡◌, ℕ, ◌+◌, ◌^◌, ◌<◌, ◌≤◌, Bool, true, false, not, leb, eqb, List, length, Option, Some, None, refl, subst, sym, ◌∙◌, arith, codes, lt-ltb, ltb-true}
 use Rattle.std.specs.Prelude.{nat_eq}
 use Rattle.std.specs.Fmt.{decimal}
 use Rattle.std.specs.List.{Contains, list_any}
 use Rattle.std.specs.Str.{bytes_eq}
 use Rattle.std.proofs.Math.Nat.{le-min, min-le_left}
-use Rattle.std.proofs.lemmas.Bool.{and_parts, eqb-true, le-leb, leb-true, not-true}
+use Rattle.std.proofs.lemmas.Bool.{false≢true, and_parts, eqb-true, le-leb, leb-true, not-false, not-true}
 use Rattle.std.proofs.lemmas.Cmp.{nat_eq_equiv}
 use Rattle.std.proofs.lemmas.Map.Views.{Contains-from_any, list_any-from_Contains}
 use Rattle.std.proofs.lemmas.Slice.Eq.{bytes_eq-Decides}
@@ -17,10 +17,15 @@ use Rattle.lms_tree.specs.declared.kind.TreeKind.{TreeKind}
 use Rattle.lms_tree.specs.declared.kind.TreeKind.TheVariants.{H5, H10, H15}
 use Rattle.lms_tree.specs.Kinds.{height}
 use Rattle.line_text.specs.Numbers.{number_of}
-use Rattle.line_text.specs.Tables.{words_of}
+use Rattle.hss.specs.Keys.{is_in_profile}
+use Rattle.sign_keys.specs.Kinds.{fits}
+use Rattle.line_text.specs.declared.bad_word.BadWord.TheVariants as bad
+use Rattle.line_text.specs.Tables as table
+use Rattle.line_text.specs.Tables.{IsWhole, words_of}
 use Rattle.line_text.proofs.FieldLemmas.{number_of-decimal}
+use Rattle.line_text.proofs.FrameLemmas.{passed}
 use Rattle.line_text.proofs.ShapeLemmas.{HasWord, has_one_digits}
-use Rattle.line_text.proofs.TableLemmas.{PartsHaveWords, PartsMake, table-in_range, table-made, table-own, table-stands}
+use Rattle.line_text.proofs.TableLemmas.{PartsHaveWords, PartsMake, table-in_range, table-made, table-own, table-stands, table-whole}
 use Rattle.schedule_world.specs.declared.line.LineWord.{LineWord}
 use Rattle.schedule_world.specs.declared.line.LineWord.TheVariants as words
 use Rattle.schedule_world.specs.declared.line.WorldLine.{WorldLine}
@@ -35,6 +40,10 @@ pub world-stands : (w : WorldText) (ws : List (List ℕ)) (l : WorldLine) → Is
 world-stands w ws l h = table-stands world_table w ws l h
 
 pub world-in_range : (w : WorldText) (ws : List (List ℕ)) (l : WorldLine) → IsWorld w ws l → InRange w l
+world-in_range w ws (lines.Kinds ots tree bottom) h =
+    let l = lines.Kinds ots tree bottom in
+    (table-in_range world_table w ws l h, not-false (fits ots tree bottom) (passed bad.Limit (not (fits ots tree bottom)) (table-whole world_table w ws l h)))
+world-in_range w ws lines.Header h = table-in_range world_table w ws lines.Header h
 world-in_range w ws l h = table-in_range world_table w ws l h
 
 -- Words don't depend on what was read.
@@ -72,10 +81,21 @@ whole w digits _ = refl
 abbrev pub HasWords : WorldText → List ℕ → WorldLine → Type 0
 HasWords w digits l = PartsHaveWords world_table w digits l (parts w l)
 
+-- Nothing that is in range is refused as a whole.
+whole_too : (w : WorldText) (l : WorldLine) → InRange w l → IsWhole world_table w l
+whole_too w (lines.Kinds ots tree bottom) range = rw range.1 refl
+whole_too w lines.Header range = tt
+whole_too w _ range = refl
+
+in_table : (w : WorldText) (l : WorldLine) → InRange w l → table.InRange world_table w l
+in_table w (lines.Kinds ots tree bottom) range = range.0
+in_table w lines.Header range = range
+in_table w _ range = range
+
 -- The words of a line that may stand here are one.
 pub world-made : (w : WorldText) (digits : List ℕ) (l : WorldLine) → Stands w l → InRange w l → HasWords w digits l → IsWorld w (spelled_words digits l) l
 world-made w digits l stands range has =
-    subst (λ (ws : List (List ℕ)). IsWorld w ws l) (any_words w digits l) (table-made world_table w digits l (started w) (λ word vs. refl) (whole w digits l) stands range has)
+    subst (λ (ws : List (List ℕ)). IsWorld w ws l) (any_words w digits l) (table-made world_table w digits l (started w) (whole w digits l) stands (in_table w l range) (whole_too w l range) has)
 
 -- ## Members that are named
 
@@ -132,8 +152,16 @@ low_tree H10 is = omega arith
 low_tree H15 is = cc
 
 -- The trees of a world have 5 or 10 levels.
-pub height-low : (w : WorldText) (ots : OtsKind) (tree : TreeKind) → InRange w (lines.Kinds ots tree) → height tree ≤ 10
-height-low w ots tree range = low_tree tree range.1.0
+pub height-low : (w : WorldText) (ots : OtsKind) (tree : TreeKind) (bottom : Option TreeKind) → InRange w (lines.Kinds ots tree bottom) → height tree ≤ 10
+height-low w ots tree bottom range = low_tree tree range.0.1.0
+
+-- So have the bottom trees.
+pub bottom-low : (w : WorldText) (ots : OtsKind) (tree bottom : TreeKind) → InRange w (lines.Kinds ots tree (Some bottom)) → height bottom ≤ 10
+bottom-low w ots tree bottom range = low_tree bottom range.0.1.1
+
+-- There are keys of the kinds of a world.
+pub kinds-fit : (w : WorldText) (ots : OtsKind) (tree : TreeKind) (bottom : Option TreeKind) → InRange w (lines.Kinds ots tree bottom) → fits ots tree bottom ≡ true
+kinds-fit w ots tree bottom range = range.1
 
 any_width : (ots : OtsKind) → ots_of (width ots) ≡ Some ots
 any_width W1 = refl
@@ -141,14 +169,26 @@ any_width W2 = refl
 any_width W4 = refl
 any_width W8 = refl
 
+too_high : (tree : TreeKind) → leb (height tree + 15) 15 ≡ false
+too_high H5 = refl
+too_high H10 = refl
+too_high H15 = refl
+
+-- Two trees of a key have at most 15 levels together, so neither has more than 10.
+bottom_again : (ots : OtsKind) (tree bottom : TreeKind) → fits ots tree (Some bottom) ≡ true → tree_of (height bottom) ≡ Some bottom
+bottom_again ots tree H5 fit = refl
+bottom_again ots tree H10 fit = refl
+bottom_again ots tree H15 fit = absurd (false≢true (sym (too_high tree) ∙ (and_parts (is_in_profile ots) (leb (height tree + 15) 15) fit).1))
+
 tree_again : (tree : TreeKind) → height tree ≤ 10 → tree_of (height tree) ≡ Some tree
 tree_again H5 low = refl
 tree_again H10 low = refl
 tree_again H15 low = absurd (omega (arith, low))
 
--- A world may have signatures of any width, and those trees.
-pub kinds-again : (w : WorldText) (ots : OtsKind) (tree : TreeKind) → height tree ≤ 10 → InRange w (lines.Kinds ots tree)
-kinds-again w ots tree low = (any_width ots, (tree_again tree low, tt))
+-- A world may have keys of any kinds that there are, with those trees.
+pub kinds-again : (w : WorldText) (ots : OtsKind) (tree : TreeKind) (bottom : Option TreeKind) → height tree ≤ 10 → fits ots tree bottom ≡ true → InRange w (lines.Kinds ots tree bottom)
+kinds-again w ots tree None low fit = ((any_width ots, (tree_again tree low, tt)), fit)
+kinds-again w ots tree (Some bottom) low fit = ((any_width ots, (tree_again tree low, bottom_again ots tree bottom fit)), fit)
 
 -- ## Epochs
 

@@ -1,2 +1,3 @@
 mod Rows
+pub mod KindLemmas
 pub mod GrammarLemmas

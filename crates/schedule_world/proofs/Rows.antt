@@ -44,17 +44,36 @@ groups : (at world.Headed (codes "group 1 4 1 2 000102030405060708090A0b0c0d0eff
 unfolding judge_line hex_on_literals
 groups = (refl, refl, refl, refl, refl, refl, refl, refl, refl, refl)
 
-kinds : (at (world.Grouped 1) (codes "kinds 1 5") ≡ Ok (lines.Kinds W1 H5))
-    × (at (world.Grouped 1) (codes "kinds 2 5") ≡ Ok (lines.Kinds W2 H5))
-    × (at (world.Grouped 1) (codes "kinds 4 10") ≡ Ok (lines.Kinds W4 H10))
-    × (at (world.Grouped 1) (codes "kinds 8 10") ≡ Ok (lines.Kinds W8 H10))
+kinds : (at (world.Grouped 1) (codes "kinds 1 5") ≡ Ok (lines.Kinds W1 H5 None))
+    × (at (world.Grouped 1) (codes "kinds 2 5") ≡ Ok (lines.Kinds W2 H5 None))
+    × (at (world.Grouped 1) (codes "kinds 4 10") ≡ Ok (lines.Kinds W4 H10 None))
+    × (at (world.Grouped 1) (codes "kinds 8 10") ≡ Ok (lines.Kinds W8 H10 None))
     × (at (world.Grouped 1) (codes "kinds 3 5") ≡ Err bad.Limit)
     × (at (world.Grouped 1) (codes "kinds 16 5") ≡ Err bad.Limit)
     × (at (world.Grouped 1) (codes "kinds 8 15") ≡ Err bad.Limit)
     × (at (world.Grouped 1) (codes "kinds 08 15") ≡ Err bad.Number)
+    × (at (world.Grouped 1) (codes "kinds 8") ≡ Err bad.Count)
     × (at (world.Grouped 1) (codes "node 1") ≡ Err bad.Order)
 unfolding judge_line hex_on_literals
-kinds = (refl, refl, refl, refl, refl, refl, refl, refl, refl)
+kinds = (refl, refl, refl, refl, refl, refl, refl, refl, refl, refl)
+
+-- Keys of two levels have W4 or W8, and at most 15 levels in all; each word comes before them as a whole.
+two_levels : (at (world.Grouped 1) (codes "kinds 4 5 5") ≡ Ok (lines.Kinds W4 H5 (Some H5)))
+    × (at (world.Grouped 1) (codes "kinds 4 10 5") ≡ Ok (lines.Kinds W4 H10 (Some H5)))
+    × (at (world.Grouped 1) (codes "kinds 8 5 10") ≡ Ok (lines.Kinds W8 H5 (Some H10)))
+    × (at (world.Grouped 1) (codes "kinds 4 10 10") ≡ Err bad.Limit)
+    × (at (world.Grouped 1) (codes "kinds 2 5 5") ≡ Err bad.Limit)
+    × (at (world.Grouped 1) (codes "kinds 1 5 5") ≡ Err bad.Limit)
+    × (at (world.Grouped 1) (codes "kinds 4 15 5") ≡ Err bad.Limit)
+    × (at (world.Grouped 1) (codes "kinds 4 5 15") ≡ Err bad.Limit)
+    × (at (world.Grouped 1) (codes "kinds 4 5 7") ≡ Err bad.Limit)
+    × (at (world.Grouped 1) (codes "kinds 2 5 05") ≡ Err bad.Number)
+    × (at (world.Grouped 1) (codes "kinds 4 x 20") ≡ Err bad.Number)
+    × (at (world.Grouped 1) (codes "kinds 3 5 x") ≡ Err bad.Limit)
+    × (at (world.Grouped 1) (codes "kinds 4 5 5 5") ≡ Err bad.Count)
+    × (at world.Headed (codes "kinds 4 10 5") ≡ Err bad.Order)
+unfolding judge_line hex_on_literals
+two_levels = (refl, refl, refl, refl, refl, refl, refl, refl, refl, refl, refl, refl, refl, refl)
 
 rosters : (roster [] false (codes "node 1023") ≡ Ok (lines.Node 1023))
     × (roster [] false (codes "node 1024") ≡ Err bad.Limit)
@@ -143,7 +162,7 @@ unfolding judge_line hex_on_literals
 others = (refl, refl, refl, refl, refl, refl, refl, refl, refl, refl, refl, refl)
 
 -- what is kept behind a line
-kept : (after (world.Grouped 1) (lines.Kinds W8 H5) ≡ world.Roster 1 [] false)
+kept : (after (world.Grouped 1) (lines.Kinds W8 H5 None) ≡ world.Roster 1 [] false)
     × (after (world.Roster 1 [] false) (lines.Liar 2) ≡ world.Roster 1 (2 ∷ []) false)
     × (after (world.Roster 1 (2 ∷ []) false) (lines.Node 1) ≡ world.Roster 1 (2 ∷ 1 ∷ []) true)
     × (after (world.Roster 1 (2 ∷ 1 ∷ []) true) (lines.Liar 3) ≡ world.Roster 1 (2 ∷ 1 ∷ 3 ∷ []) true)

@@ -1,8 +1,9 @@
 -- The grammar of the world form, which its table gives: which words are which line, where, and in which ranges; and the
 -- reader's progress.
-use Rattle.std.specs.Prelude.{ℕ, ◌+◌, ◌≤◌, ◌<◌, ◌||◌, Bool, true, false, List, [], ◌∷◌, ◌++◌, length, Option, Result}
+use Rattle.std.specs.Prelude.{◌≡◌, ℕ, ◌+◌, ◌≤◌, ◌<◌, ◌||◌, Bool, true, false, List, [], ◌∷◌, ◌++◌, length, Option, Result}
 use Rattle.std.specs.List.{Contains}
 use Rattle.ff_ids.specs.declared.TheConstants.{LAST_MEMBER, MAX_TOLERANCE}
+use Rattle.sign_keys.specs.Kinds.{fits}
 use Rattle.line_text.specs.declared.bad_word.BadWord.{BadWord}
 use Rattle.line_text.specs.Answers.{Progress, moved, next_line}
 use Rattle.line_text.specs.Frame as frame
@@ -56,8 +57,9 @@ pub record IsNewcomer (names : List ℕ) (m : ℕ) : Type 0 where
 abbrev pub IsEpoch : Option ℕ → Type 0
 IsEpoch epoch = shapes.InRange epoch_or_now epoch
 
--- Each number is in its range, the bytes are no more than there may be, and a name is one.
+-- Each number is in its range, there are keys of the kinds, the bytes are no more than there may be, and a name is one.
 abbrev pub InRange : WorldText → WorldLine → Type 0
+InRange w (lines.Kinds ots tree bottom) = table.InRange world_table w (lines.Kinds ots tree bottom) × (fits ots tree bottom ≡ true)
 InRange w l = table.InRange world_table w l
 
 -- These words are this line, which may stand here, with its numbers, bytes and name in range.
@@ -78,7 +80,7 @@ ticked n w = w
 abbrev pub after : WorldText → WorldLine → WorldText
 after w lines.Header = world.Headed
 after w (lines.Group g) = world.Grouped g.t
-after w (lines.Kinds ots tree) = world.Roster (tolerance w) [] false
+after w (lines.Kinds ots tree bottom) = world.Roster (tolerance w) [] false
 after w (lines.Node m) = with_member m true w
 after w (lines.Liar m) = with_member m false w
 after w lines.Begin = world.Body (tolerance w) 0

@@ -1,16 +1,20 @@
 -- The table of the world form: each line word, where its line may stand, what the words behind it must be, and what
 -- line they are.
-use Rattle.std.specs.Prelude.{ℕ, ◌*◌, ◌-◌, ◌^◌, ◌&&◌, ◌==◌, nat_le, nat_lt, not, min, Bool, true, false, List, [], ◌∷◌, length, Option, None, Result, Err, codes, if◌then◌else◌}
+use Rattle.std.specs.Prelude.{ℕ, ◌*◌, ◌-◌, ◌^◌, ◌&&◌, ◌==◌, nat_le, nat_lt, not, min, Bool, true, false, List, [], ◌∷◌, length, Option, Some, None, Result, Err, codes, if◌then◌else◌}
 use Rattle.std.specs.List.{list_any}
 use Rattle.ff_ids.specs.declared.TheConstants.{LAST_MEMBER, MAX_TOLERANCE, ALL_BITS}
+use Rattle.lms_ots.specs.declared.kind.OtsKind.{OtsKind}
 use Rattle.lms_ots.specs.declared.kind.OtsKind.TheVariants.{W8}
 use Rattle.lms_ots.specs.Ots as ots
+use Rattle.lms_tree.specs.declared.kind.TreeKind.{TreeKind}
 use Rattle.lms_tree.specs.declared.kind.TreeKind.TheVariants.{H10}
 use Rattle.lms_tree.specs.Kinds as trees
+use Rattle.sign_keys.specs.Kinds.{fits}
 use Rattle.line_text.specs.declared.bad_word.BadWord.{BadWord}
 use Rattle.line_text.specs.declared.bad_word.BadWord.TheVariants as bad
-use Rattle.line_text.specs.Frame.{Row, fields_line, word_among}
-use Rattle.line_text.specs.Shapes.{◌and◌, Field, Fields, Makes, any_name, bytes_of, bytes_up_to, line_from, no_more, number_as, number_from, number_where, tests, word_or}
+use Rattle.line_text.specs.Fields.{Test, bad_where}
+use Rattle.line_text.specs.Frame.{Row, fields_line, whole_line, word_among}
+use Rattle.line_text.specs.Shapes.{◌and◌, Field, Fields, Makes, Values, any_name, bytes_of, bytes_up_to, line_from, maybe, no_more, number_as, number_from, number_where, tests, tests_for, values, word_or}
 use Rattle.line_text.specs.Tables as table
 use Rattle.line_text.specs.Tables.{Header, Line, Parts, Table}
 use Rattle.schedule_world.specs.declared.line.LineWord.{LineWord}
@@ -131,7 +135,7 @@ ring_of w = number_from 0 (2 * tolerance w)
 -- what the words behind a line word must be
 abbrev pub fields : WorldText → LineWord → Fields
 fields w words.Group = number_from 1 MAX_TOLERANCE and number_from 1 10000 and number_from 1 1000 and number_from 1 16 and bytes_of 16 and no_more
-fields w words.Kinds = width and height and no_more
+fields w words.Kinds = width and height and maybe height
 fields w words.Node = newcomer w and no_more
 fields w words.Liar = newcomer w and no_more
 fields w words.Begin = no_more
@@ -151,10 +155,19 @@ fields w words.View = member and no_more
 fields w words.Monitor = member and ring_of w and member and no_more
 fields w words.End = no_more
 
+-- No key of two levels has these kinds.
+abbrev pub kinds_fault : OtsKind → TreeKind → Option TreeKind → Option BadWord
+kinds_fault kind tree bottom = bad_where bad.Limit (not (fits kind tree bottom))
+
+-- Such kinds are refused as a whole, and nothing else is.
+abbrev pub whole_fault : (w : WorldText) (word : LineWord) → Values (fields w word) → Option BadWord
+whole_fault w words.Kinds vs = kinds_fault vs.0 vs.1.0 vs.1.1
+whole_fault w _ vs = None
+
 -- the line that their values make
 abbrev pub line : (w : WorldText) (word : LineWord) → Makes (fields w word) WorldLine
 line w words.Group = λ t timeout period misses tag. lines.Group (record { t = t; timeout = timeout; period = period; misses = misses; tag = tag })
-line w words.Kinds = λ kind tree. lines.Kinds kind tree
+line w words.Kinds = λ kind tree bottom. lines.Kinds kind tree bottom
 line w words.Node = λ m. lines.Node m
 line w words.Liar = λ m. lines.Liar m
 line w words.Begin = lines.Begin
@@ -178,7 +191,7 @@ line w words.End = lines.End
 abbrev pub parts : (w : WorldText) → WorldLine → Parts LineWord (fields w)
 parts w lines.Header = Header
 parts w (lines.Group g) = Line words.Group (g.t, (g.timeout, (g.period, (g.misses, (g.tag, tt)))))
-parts w (lines.Kinds kind tree) = Line words.Kinds (kind, (tree, tt))
+parts w (lines.Kinds kind tree bottom) = Line words.Kinds (kind, (tree, bottom))
 parts w (lines.Node m) = Line words.Node (m, tt)
 parts w (lines.Liar m) = Line words.Liar (m, tt)
 parts w lines.Begin = Line words.Begin tt
@@ -235,7 +248,7 @@ world_table = record {
   text = word_text;
   may_stand = may_stand;
   fields = fields;
-  whole_fault = λ w word values. None;
+  whole_fault = whole_fault;
   line = line;
   parts = parts;
 }
@@ -246,10 +259,36 @@ world_table = record {
 abbrev pub line_word : List ℕ → Option LineWord
 line_word word = word_among word_text line_words word
 
+-- kinds of keys of one level, and of two
+abbrev pub one_level : Fields
+one_level = width and height and no_more
+
+abbrev pub one_level_line : List (List ℕ) → WorldLine
+one_level_line args = line_from one_level (λ kind tree. lines.Kinds kind tree None) args
+
+abbrev pub two_levels : Fields
+two_levels = width and height and height and no_more
+
+abbrev pub two_level_fault : List (List ℕ) → Option BadWord
+two_level_fault args = line_from two_levels (λ kind tree bottom. kinds_fault kind tree (Some bottom)) args
+
+abbrev pub two_level_line : List (List ℕ) → WorldLine
+two_level_line args = line_from two_levels (λ kind tree bottom. lines.Kinds kind tree (Some bottom)) args
+
+abbrev pub kinds_tests : List (List ℕ) → List Test
+kinds_tests args = tests_for (fields world.Start words.Kinds) args
+
+abbrev pub kinds_fault_in : List (List ℕ) → Option BadWord
+kinds_fault_in args = whole_fault world.Start words.Kinds (values (fields world.Start words.Kinds) args)
+
+abbrev pub kinds_line : List (List ℕ) → WorldLine
+kinds_line args = line_from (fields world.Start words.Kinds) (line world.Start words.Kinds) args
+
 -- What the words behind a line word are, or the first bad one. It is said apart for `end` so that it opens only where
 -- the line word is known.
 abbrev pub words_line : WorldText → LineWord → List (List ℕ) → Result WorldLine BadWord
 words_line w words.End args = fields_line [] (λ others. lines.End) args
+words_line w words.Kinds args = whole_line (kinds_tests args) kinds_fault_in kinds_line args
 words_line w word args = fields_line (tests (fields w word)) (line_from (fields w word) (line w word)) args
 
 -- the same, of a line whose fields don't depend on what was read

@@ -14,10 +14,12 @@ pub enum WorldLine {
     Group {
         group: Group,
     },
-    /// `kinds W H`: of all keys of the world. The trees have 5 or 10 levels.
+    /// `kinds W H` or `kinds W H H1`: of the keys of all members; the authority's has one level, of W and H. Trees
+    /// have a height of 5 or 10; of keys of two levels W is 4 or 8, and the heights are at most 15 together.
     Kinds {
         ots: OtsKind,
         tree: TreeKind,
+        bottom: Option<TreeKind>,
     },
     /// `node M`: a correct member.
     Node {

@@ -1,5 +1,5 @@
 -- Worked workloads, of any words. Each row is computed.
-use Rattle.std.proofs.Common.{◌≡◌, ℕ, ◌^◌, List, [], ◌∷◌, refl}
+use Rattle.std.proofs.Common.{◌≡◌, ℕ, ◌^◌, List, [], ◌∷◌, None, refl}
 use Rattle.rand_core.specs.Stream.{Stream}
 use Rattle.lms_ots.specs.declared.kind.OtsKind.TheVariants.{W4}
 use Rattle.lms_tree.specs.declared.kind.TreeKind.TheVariants.{H10}
@@ -20,7 +20,7 @@ behind bound words = (draw bound words).1
 
 -- three nodes and one round
 no_liar : (words : Stream) → lines_by (plan 3 3 1) words ≡
-    lines.Header ∷ lines.Group (group_of (plan 3 3 1)) ∷ lines.Kinds W4 H10 ∷ lines.Node 0 ∷ lines.Node 1 ∷ lines.Node 2 ∷ lines.Begin
+    lines.Header ∷ lines.Group (group_of (plan 3 3 1)) ∷ lines.Kinds W4 H10 None ∷ lines.Node 0 ∷ lines.Node 1 ∷ lines.Node 2 ∷ lines.Begin
     ∷ lines.Start 0 ∷ lines.Start 1 ∷ lines.Start 2 ∷ lines.Tick 0 1 ∷ lines.Tick 1 1 ∷ lines.Tick 2 1 ∷ lines.Flow 20000 ∷ lines.End ∷ []
 unfolding rounds_from
 no_liar words = refl

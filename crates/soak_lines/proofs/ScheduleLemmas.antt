@@ -188,7 +188,7 @@ lines_stand p words is tag are =
       (
         refl,
         ((omega arith, omega arith), ((omega arith, omega arith), ((omega arith, omega arith), ((omega arith, omega arith), (tag, tt))))),
-        (refl, (refl, (refl, tt)), all_nodes p _ is lying),
+        (refl, ((refl, (refl, tt)), refl), all_nodes p _ is lying),
       ),
     )
 

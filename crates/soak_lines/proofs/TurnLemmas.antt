@@ -53,7 +53,7 @@ head_leads : (p : Plan) (h : Head) (words : Stream) → IsHead p h → Leads p (
 unfolding left
 head_leads p head.Header words is = record { given = refl; comes = tt }
 head_leads p head.Group words is = record { given = refl; comes = tt }
-head_leads p head.Kinds words is = record { given = onto (lines.Kinds W4 H10) _ _ (sym (node-is p 0 words)); comes = node-ok p 0 }
+head_leads p head.Kinds words is = record { given = onto (lines.Kinds W4 H10 None) _ _ (sym (node-is p 0 words)); comes = node-ok p 0 }
 head_leads p (head.Node m) words is =
     record { given = nodes_more p m words is ∙ onto (lines.Node m) _ _ (sym (node-is p (m + 1) words)); comes = node-ok p (m + 1) }
 head_leads p (head.Liar m) words is =

@@ -1,5 +1,5 @@
 -- The places of a workload, and the lines that are left at each.
-use Rattle.std.specs.Prelude.{ℕ, ◌+◌, ◌-◌, ◌%◌, ◌==◌, ◌<◌, ◌≤◌, nat_lt, if◌then◌else◌, List, [], ◌∷◌, ◌++◌, map}
+use Rattle.std.specs.Prelude.{ℕ, ◌+◌, ◌-◌, ◌%◌, ◌==◌, ◌<◌, ◌≤◌, nat_lt, if◌then◌else◌, List, [], ◌∷◌, ◌++◌, map, None}
 use Rattle.rand_core.specs.Stream.{Stream}
 use Rattle.lms_ots.specs.declared.kind.OtsKind.TheVariants.{W4}
 use Rattle.lms_tree.specs.declared.kind.TreeKind.TheVariants.{H10}
@@ -83,9 +83,9 @@ abbrev pub nodes_left : Plan → ℕ → Stream → List WorldLine
 nodes_left p m words = map lines.Node (numbers m p.correct) ++ liars_left p p.correct words
 
 abbrev pub head_left : Plan → Head → Stream → List WorldLine
-head_left p head.Header words = lines.Header ∷ lines.Group (group_of p) ∷ lines.Kinds W4 H10 ∷ nodes_left p 0 words
-head_left p head.Group words = lines.Group (group_of p) ∷ lines.Kinds W4 H10 ∷ nodes_left p 0 words
-head_left p head.Kinds words = lines.Kinds W4 H10 ∷ nodes_left p 0 words
+head_left p head.Header words = lines.Header ∷ lines.Group (group_of p) ∷ lines.Kinds W4 H10 None ∷ nodes_left p 0 words
+head_left p head.Group words = lines.Group (group_of p) ∷ lines.Kinds W4 H10 None ∷ nodes_left p 0 words
+head_left p head.Kinds words = lines.Kinds W4 H10 None ∷ nodes_left p 0 words
 head_left p (head.Node m) words = nodes_left p m words
 head_left p (head.Liar m) words = liars_left p m words
 head_left p head.Begin words = lines.Begin ∷ starts_left p 0 words

@@ -27,7 +27,7 @@ turned line place = record { line = line; place = place }
 abbrev pub head_turn : Plan → Head → Turn
 head_turn p head.Header = turned lines.Header (place.Head head.Group)
 head_turn p head.Group = turned (lines.Group (group_of p)) (place.Head head.Kinds)
-head_turn p head.Kinds = turned (lines.Kinds W4 H10) (node_place p 0)
+head_turn p head.Kinds = turned (lines.Kinds W4 H10 None) (node_place p 0)
 head_turn p (head.Node m) = turned (lines.Node m) (node_place p (m + 1))
 head_turn p (head.Liar m) = turned (lines.Liar m) (liar_place p (m + 1))
 head_turn p head.Begin = turned lines.Begin (start_place p 0)

@@ -108,7 +108,7 @@ rounds_from p round (suc more) words =
 -- The roster, the start of each node, and the rounds.
 abbrev pub lines_by : Plan → Stream → List WorldLine
 lines_by p words =
-    lines.Header ∷ lines.Group (group_of p) ∷ lines.Kinds W4 H10
+    lines.Header ∷ lines.Group (group_of p) ∷ lines.Kinds W4 H10 None
     ∷ (map lines.Node (nodes p) ++ (map lines.Liar (liars p) ++ (lines.Begin ∷ (map lines.Start (nodes p) ++ rounds_from p 1 p.rounds words))))
 
 -- The lines of the workload of a seed, a number of members and a number of rounds.

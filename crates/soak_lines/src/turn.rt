@@ -93,6 +93,7 @@ fn head_turn(plan: &Plan, head: Head) -> Turn
             line: WorldLine::Kinds {
                 ots: OtsKind::W4,
                 tree: TreeKind::H10,
+                bottom: None,
             },
             place: Place::node(plan, 0),
         },

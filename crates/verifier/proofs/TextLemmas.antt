@@ -10,8 +10,8 @@ use Rattle.line_text.specs.Answers.{Progress}
 use Rattle.line_text.specs.Digits.{SpellsBytes}
 use Rattle.line_text.specs.Spellings.{SpellsOrDash}
 use Rattle.line_text.proofs.SpellingLemmas.{below_256}
-use Rattle.lms_tree.specs.declared.key.PublicKey.{PublicKey}
-use Rattle.lms_tree.specs.Lms.{Verifies, key_bytes}
+use Rattle.records.specs.declared.keys.Key.{Key}
+use Rattle.records.specs.Keys.{IsKey, Verifies, key_bytes}
 use Rattle.play.specs.Plays.{Finished, Follows, IoState, IsLast, Runs, Starved, bytes_of}
 use Rattle.play.specs.declared.stop.Stop.{Stop}
 use Rattle.play.specs.declared.stop.Stop.TheVariants as stop
@@ -135,7 +135,7 @@ last n q [] text e = absurd (some_cause text bad.End [] e)
 last n q (b ∷ ls) text e = let s = next (at n verify.Signed) (asked.Question q) b ls text e in last_line n q b ls text s.line s.is s.rest
 
 -- `signature HEX`
-record FromSignature (left : List ℕ) (k : PublicKey) (m text : List ℕ) : Type 0 where
+record FromSignature (left : List ℕ) (k : Key) (m text : List ℕ) : Type 0 where
   word : List ℕ
   signature : List ℕ
   line : left ≡ line_of (codes "signature" ∷ word ∷ []) ++ line_of (codes "end" ∷ [])
@@ -143,7 +143,7 @@ record FromSignature (left : List ℕ) (k : PublicKey) (m text : List ℕ) : Typ
   few : length signature ≤ signature_bytes
   answer : text ≡ answer_line (record { key = k; message = m; signature = signature })
 
-signature_line : (n : ℕ) (k : PublicKey) (m b : List ℕ) (ls : List (List ℕ)) (text : List ℕ) (l : VerifyLine) → IsLine (at n verify.Worded) b l → answered (behind (at n verify.Worded) l) (asked_after (asked.Message k m) l) ls ≡ trace text None → FromSignature (concat (b ∷ ls)) k m text
+signature_line : (n : ℕ) (k : Key) (m b : List ℕ) (ls : List (List ℕ)) (text : List ℕ) (l : VerifyLine) → IsLine (at n verify.Worded) b l → answered (behind (at n verify.Worded) l) (asked_after (asked.Message k m) l) ls ≡ trace text None → FromSignature (concat (b ∷ ls)) k m text
 signature_line n k m b ls text (lines.Signature s) is e =
     let o = last (n + 1) (record { key = k; message = m; signature = s }) ls text e in
     let w = is.spells.spells in
@@ -161,12 +161,12 @@ signature_line n k m b ls text (lines.Key j) is e = absurd (let s = is.spells.st
 signature_line n k m b ls text (lines.Message j) is e = absurd (let s = is.spells.stands in cc)
 signature_line n k m b ls text lines.End is e = absurd (let s = is.spells.stands in cc)
 
-from_signature : (n : ℕ) (k : PublicKey) (m : List ℕ) (ls : List (List ℕ)) (text : List ℕ) → answered (at n verify.Worded) (asked.Message k m) ls ≡ trace text None → FromSignature (concat ls) k m text
+from_signature : (n : ℕ) (k : Key) (m : List ℕ) (ls : List (List ℕ)) (text : List ℕ) → answered (at n verify.Worded) (asked.Message k m) ls ≡ trace text None → FromSignature (concat ls) k m text
 from_signature n k m [] text e = absurd (some_cause text bad.End [] e)
 from_signature n k m (b ∷ ls) text e = let s = next (at n verify.Worded) (asked.Message k m) b ls text e in signature_line n k m b ls text s.line s.is s.rest
 
 -- `message HEX`
-record FromMessage (left : List ℕ) (k : PublicKey) (text : List ℕ) : Type 0 where
+record FromMessage (left : List ℕ) (k : Key) (text : List ℕ) : Type 0 where
   word : List ℕ
   message : List ℕ
   others : List ℕ
@@ -175,7 +175,7 @@ record FromMessage (left : List ℕ) (k : PublicKey) (text : List ℕ) : Type 0 
   few : length message ≤ message_bytes
   rest : FromSignature others k message text
 
-message_line : (n : ℕ) (k : PublicKey) (b : List ℕ) (ls : List (List ℕ)) (text : List ℕ) (l : VerifyLine) → IsLine (at n verify.Keyed) b l → answered (behind (at n verify.Keyed) l) (asked_after (asked.Key k) l) ls ≡ trace text None → FromMessage (concat (b ∷ ls)) k text
+message_line : (n : ℕ) (k : Key) (b : List ℕ) (ls : List (List ℕ)) (text : List ℕ) (l : VerifyLine) → IsLine (at n verify.Keyed) b l → answered (behind (at n verify.Keyed) l) (asked_after (asked.Key k) l) ls ≡ trace text None → FromMessage (concat (b ∷ ls)) k text
 message_line n k b ls text (lines.Message m) is e =
     let w = is.spells.spells in
     let ws = is.spells.words ∙ ap (λ args. codes "message" ∷ args) (w.same ∙ ap (λ args. w.word ∷ args) w.rest) in
@@ -193,17 +193,18 @@ message_line n k b ls text (lines.Key j) is e = absurd (let s = is.spells.stands
 message_line n k b ls text (lines.Signature j) is e = absurd (let s = is.spells.stands in cc)
 message_line n k b ls text lines.End is e = absurd (let s = is.spells.stands in cc)
 
-from_message : (n : ℕ) (k : PublicKey) (ls : List (List ℕ)) (text : List ℕ) → answered (at n verify.Keyed) (asked.Key k) ls ≡ trace text None → FromMessage (concat ls) k text
+from_message : (n : ℕ) (k : Key) (ls : List (List ℕ)) (text : List ℕ) → answered (at n verify.Keyed) (asked.Key k) ls ≡ trace text None → FromMessage (concat ls) k text
 from_message n k [] text e = absurd (some_cause text bad.End [] e)
 from_message n k (b ∷ ls) text e = let s = next (at n verify.Keyed) (asked.Key k) b ls text e in message_line n k b ls text s.line s.is s.rest
 
 -- `key HEX`
 record FromKey (left text : List ℕ) : Type 0 where
   word : List ℕ
-  key : PublicKey
+  key : Key
   others : List ℕ
   line : left ≡ line_of (codes "key" ∷ word ∷ []) ++ others
   spells : SpellsBytes word (key_bytes key)
+  parts : IsKey key
   rest : FromMessage others key text
 
 key_line : (n : ℕ) (b : List ℕ) (ls : List (List ℕ)) (text : List ℕ) (l : VerifyLine) → IsLine (at n verify.Headed) b l → answered (behind (at n verify.Headed) l) (asked_after asked.Nothing l) ls ≡ trace text None → FromKey (concat (b ∷ ls)) text
@@ -216,6 +217,7 @@ key_line n b ls text (lines.Key k) is e =
       others = concat ls;
       line = joined b (line_of (codes "key" ∷ w.word ∷ [])) (concat ls) ls (is.spaced ∙ ap line_of ws) refl;
       spells = subst (SpellsBytes w.word) w.is.are.spelled w.is.digits;
+      parts = w.is.are.parts;
       rest = from_message (n + 1) k ls text e;
     }
 key_line n b ls text lines.Header is e = absurd (let s = is.spells.stands in cc)
@@ -276,12 +278,13 @@ asks_this lines bytes text whole e =
             ∙ ap (λ (x : List ℕ). line_of (codes "key" ∷ k.word ∷ []) ++ x) (m.line
             ∙ ap (λ (x : List ℕ). line_of (codes "message" ∷ m.word ∷ []) ++ x) s.line));
         key = k.spells;
+        is_key = k.parts;
         message = m.spells;
         message_few = m.few;
         signature = s.spells;
         signature_few = s.few;
       };
-      good = subst (λ (t : List ℕ). (t ≡ codes "signature good" ++ 10 ∷ []) ↔ Verifies q.key q.message q.signature) (sym s.answer) (answer-good q (signature_below s.word s.signature s.spells));
+      good = subst (λ (t : List ℕ). (t ≡ codes "signature good" ++ 10 ∷ []) ↔ Verifies q.key q.message q.signature) (sym s.answer) (answer-good q k.parts (signature_below s.word s.signature s.spells));
     }
 
 abbrev Asks : Continuation BadWord → Type 0

@@ -5,11 +5,11 @@ use Rattle.std.specs.List.{join_with_byte}
 use Rattle.line_text.specs.declared.bad_word.BadWord.{BadWord}
 use Rattle.line_text.specs.Digits.{SpellsBytes}
 use Rattle.line_text.specs.Spellings.{SpellsOrDash}
-use Rattle.lms_tree.specs.Lms.{Verifies, key_bytes}
 use Rattle.play.specs.Plays.{IoState}
 use Rattle.play.specs.declared.stop.Stop.{Stop}
 use Rattle.play.specs.declared.stop.Stop.TheVariants as stop
 use Rattle.ports.specs.Contents.{IsUsedUp}
+use Rattle.records.specs.Keys.{IsKey, Verifies, key_bytes}
 use Rattle.verify_text.specs.declared.question.Question.{Question}
 use Rattle.verify_text.specs.Rows.{message_bytes, signature_bytes}
 
@@ -29,6 +29,7 @@ pub record IsText (text : List ℕ) (q : Question) : Type 0 where
       ++ (line_of (codes "signature" ∷ signature_word ∷ [])
       ++ line_of (codes "end" ∷ []))))
   pub key : SpellsBytes key_word (key_bytes q.key)
+  pub is_key : IsKey q.key
   pub message : SpellsOrDash message_word q.message
   pub message_few : length q.message ≤ message_bytes
   pub signature : SpellsOrDash signature_word q.signature

@@ -1,7 +1,11 @@
 -- Worked lines: what each is, or its first bad word. Each row is computed.
-use Rattle.std.proofs.Common.{◌≡◌, ℕ, ◌++◌, [], ◌∷◌, List, Result, Ok, Err, refl, codes}
+use Rattle.std.proofs.Common.{◌≡◌, ℕ, ◌++◌, [], ◌∷◌, List, Result, Ok, Err, refl, codes, replicate}
 use Rattle.hex.proofs.OnLiterals.{hex_on_literals}
+use Rattle.lms_ots.specs.declared.kind.OtsKind.TheVariants.{W4, W8}
+use Rattle.lms_tree.specs.declared.kind.TreeKind.TheVariants.{H5}
 use Rattle.lms_tree.specs.Lms.{key_in}
+use Rattle.hss.specs.Hss as hss
+use Rattle.records.specs.declared.keys.Key.TheVariants as keys
 use Rattle.line_text.specs.declared.bad_word.BadWord.{BadWord}
 use Rattle.line_text.specs.declared.bad_word.BadWord.TheVariants as bad
 use Rattle.line_text.specs.Frame.{judge as judge_line}
@@ -20,7 +24,7 @@ heads : (at verify.Start (codes "fireflies 1 verify") ≡ Ok lines.Header)
 unfolding judge_line key_in hex_on_literals
 heads = (refl, refl)
 
-keys : (at verify.Headed (codes "key" ++ 32 ∷ codes "0000000800000003a1a1a1a1a1a1a1a1a1a1a1a1a1a1a1a1b2b2b2b2b2b2b2b2b2b2b2b2b2b2b2b2b2b2b2b2b2b2b2b2b2b2b2b2b2b2b2b2") ≡ Err bad.Limit)
+no_keys : (at verify.Headed (codes "key" ++ 32 ∷ codes "0000000800000003a1a1a1a1a1a1a1a1a1a1a1a1a1a1a1a1b2b2b2b2b2b2b2b2b2b2b2b2b2b2b2b2b2b2b2b2b2b2b2b2b2b2b2b2b2b2b2b2") ≡ Err bad.Limit)
     × (at verify.Headed (codes "key" ++ 32 ∷ codes "0000000500000005a1a1a1a1a1a1a1a1a1a1a1a1a1a1a1a1b2b2b2b2b2b2b2b2b2b2b2b2b2b2b2b2b2b2b2b2b2b2b2b2b2b2b2b2b2b2b2b2") ≡ Err bad.Limit)
     × (at verify.Headed (codes "key" ++ 32 ∷ codes "0000000500000003a1a1a1a1a1a1a1a1a1a1a1a1a1a1a1a1b2b2b2b2b2b2b2b2b2b2b2b2b2b2b2b2b2b2b2b2b2b2b2b2b2b2b2b2b2b2b2") ≡ Err bad.Limit)
     × (at verify.Headed (codes "key" ++ 32 ∷ codes "0000000500000003a1a1a1a1a1a1a1a1a1a1a1a1a1a1a1a1b2b2b2b2b2b2b2b2b2b2b2b2b2b2b2b2b2b2b2b2b2b2b2b2b2b2b2b2b2b2b2b") ≡ Err bad.Hex)
@@ -29,7 +33,23 @@ keys : (at verify.Headed (codes "key" ++ 32 ∷ codes "0000000800000003a1a1a1a1a
     × (at verify.Headed (codes "message 00") ≡ Err bad.Order)
     × (at verify.Headed (codes "keys 00") ≡ Err bad.Word)
 unfolding judge_line key_in hex_on_literals
-keys = (refl, refl, refl, refl, refl, refl, refl, refl)
+no_keys = (refl, refl, refl, refl, refl, refl, refl, refl)
+
+-- a key of one level, and keys of two
+read_keys : (at verify.Headed (codes "key" ++ 32 ∷ codes "0000000500000003a1a1a1a1a1a1a1a1a1a1a1a1a1a1a1a1b2b2b2b2b2b2b2b2b2b2b2b2b2b2b2b2b2b2b2b2b2b2b2b2b2b2b2b2b2b2b2b2") ≡ Ok (lines.Key (keys.Lms (record { tree = H5; ots = W4; id = replicate 16 161; root = replicate 32 178 }))))
+    × (at verify.Headed (codes "key" ++ 32 ∷ codes "000000020000000500000003a1a1a1a1a1a1a1a1a1a1a1a1a1a1a1a1b2b2b2b2b2b2b2b2b2b2b2b2b2b2b2b2b2b2b2b2b2b2b2b2b2b2b2b2b2b2b2b2") ≡ Ok (lines.Key (keys.Hss (record { top = record { tree = H5; ots = W4; id = replicate 16 161; root = replicate 32 178 } }))))
+    × (at verify.Headed (codes "key" ++ 32 ∷ codes "000000020000000500000004A1A1A1A1A1A1A1A1A1A1A1A1A1A1A1A1b2b2b2b2b2b2b2b2b2b2b2b2b2b2b2b2b2b2b2b2b2b2b2b2b2b2b2b2b2b2b2b2") ≡ Ok (lines.Key (keys.Hss (record { top = record { tree = H5; ots = W8; id = replicate 16 161; root = replicate 32 178 } }))))
+unfolding judge_line key_in hss.key_in hex_on_literals
+read_keys = (refl, refl, refl)
+
+-- of another number of levels, of one-time signatures of W2, of no tree, and of a byte less, are no keys; an odd number of digits comes first
+two_levels : (at verify.Headed (codes "key" ++ 32 ∷ codes "000000010000000500000003a1a1a1a1a1a1a1a1a1a1a1a1a1a1a1a1b2b2b2b2b2b2b2b2b2b2b2b2b2b2b2b2b2b2b2b2b2b2b2b2b2b2b2b2b2b2b2b2") ≡ Err bad.Limit)
+    × (at verify.Headed (codes "key" ++ 32 ∷ codes "000000020000000500000002a1a1a1a1a1a1a1a1a1a1a1a1a1a1a1a1b2b2b2b2b2b2b2b2b2b2b2b2b2b2b2b2b2b2b2b2b2b2b2b2b2b2b2b2b2b2b2b2") ≡ Err bad.Limit)
+    × (at verify.Headed (codes "key" ++ 32 ∷ codes "000000020000000800000003a1a1a1a1a1a1a1a1a1a1a1a1a1a1a1a1b2b2b2b2b2b2b2b2b2b2b2b2b2b2b2b2b2b2b2b2b2b2b2b2b2b2b2b2b2b2b2b2") ≡ Err bad.Limit)
+    × (at verify.Headed (codes "key" ++ 32 ∷ codes "000000020000000500000003a1a1a1a1a1a1a1a1a1a1a1a1a1a1a1a1b2b2b2b2b2b2b2b2b2b2b2b2b2b2b2b2b2b2b2b2b2b2b2b2b2b2b2b2b2b2b2") ≡ Err bad.Limit)
+    × (at verify.Headed (codes "key" ++ 32 ∷ codes "000000020000000500000003a1a1a1a1a1a1a1a1a1a1a1a1a1a1a1a1b2b2b2b2b2b2b2b2b2b2b2b2b2b2b2b2b2b2b2b2b2b2b2b2b2b2b2b2b2b2b2b") ≡ Err bad.Hex)
+unfolding judge_line key_in hss.key_in hex_on_literals
+two_levels = (refl, refl, refl, refl, refl)
 
 messages : (at verify.Keyed (codes "message -") ≡ Ok (lines.Message []))
     × (at verify.Keyed (codes "message 00fFAb") ≡ Ok (lines.Message (0 ∷ 255 ∷ 171 ∷ [])))

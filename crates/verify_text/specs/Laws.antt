@@ -1,8 +1,9 @@
 -- What is taken as a line is one by the grammar, and what is one is taken.
-use Rattle.std.proofs.Common.{◌≡◌, ℕ, List, ◌∷◌, Some, Ok, Err, refl, ap, if◌then◌else◌}
+use Rattle.std.proofs.Common.{◌≡◌, ℕ, List, ◌∷◌, Some, Result, Ok, Err, refl, ap, if◌then◌else◌}
+use Rattle.line_text.specs.declared.bad_word.BadWord.{BadWord}
 use Rattle.line_text.specs.declared.bad_word.BadWord.TheVariants as bad
 use Rattle.line_text.specs.Frame.{fields_line, row_line}
-use Rattle.line_text.specs.Shapes.{Values, line_from, made_of}
+use Rattle.line_text.specs.Shapes.{Values, line_from, made_of, tests_for}
 use Rattle.line_text.specs.Tables.{IsSound as IsSoundTable, Line, row_of}
 use Rattle.line_text.proofs.TableLemmas.{table-spelled, table-taken}
 use Rattle.verify_text.specs.declared.line.LineWord.{LineWord}
@@ -31,10 +32,10 @@ verify-spelled v first args l e = table-spelled verify_table sound v first args 
 pub verify-taken : (v : Verify) (first : List ℕ) (args : List (List ℕ)) (l : VerifyLine) → IsSound v → IsVerify v (first ∷ args) l → row_line (row_for v (first ∷ args)) args ≡ Ok l
 verify-taken v first args l good h = table-taken verify_table sound v first args l h
 
-line_is : (word : LineWord) → line_of word ≡ line_from (fields word) (line word)
-line_is words.End = refl
-line_is _ = refl
+words_are : (word : LineWord) (args : List (List ℕ)) → fields_line (fields_of word) (line_of word) args ≡ fields_line (tests_for (fields word) args) (line_from (fields word) (line word)) args
+words_are words.End args = refl
+words_are _ args = refl
 
 -- What is read is what the table says.
 pub verify-reads : (v : Verify) (word : LineWord) (args : List (List ℕ)) → reads v word args ≡ row_line (Ok (row_of verify_table v word)) args
-verify-reads v word args = ap (λ (of : List (List ℕ) → VerifyLine). if may_stand v word then fields_line (fields_of word) of args else Err bad.Order) (line_is word)
+verify-reads v word args = ap (λ (r : Result VerifyLine BadWord). if may_stand v word then r else Err bad.Order) (words_are word args)

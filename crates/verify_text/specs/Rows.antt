@@ -2,16 +2,16 @@
 -- behind it must be, and what line they are.
 use Rattle.std.specs.Prelude.{ℕ, Bool, true, false, List, [], ◌∷◌, Option, None, Result, Err, codes, if◌then◌else◌}
 use Rattle.lms_ots.specs.declared.kind.OtsKind.TheVariants.{W1}
-use Rattle.lms_tree.specs.declared.key.PublicKey.{PublicKey}
 use Rattle.lms_tree.specs.declared.kind.TreeKind.TheVariants.{H5}
-use Rattle.lms_tree.specs.Keys.{AreKey}
-use Rattle.lms_tree.specs.Lms.{key_in}
-use Rattle.lms_tree.proofs.Keys.{key-again, key-are}
+use Rattle.records.specs.declared.keys.Key.{Key}
+use Rattle.records.specs.declared.keys.Key.TheVariants as keys
+use Rattle.records.specs.Keys.{AreKey, key_in}
+use Rattle.records.proofs.KeyParts.{key-again, key-are}
 use Rattle.line_text.specs.declared.bad_word.BadWord.{BadWord}
 use Rattle.line_text.specs.declared.bad_word.BadWord.TheVariants as bad
 use Rattle.line_text.specs.Fields.{Test}
 use Rattle.line_text.specs.Frame.{Row, fields_line, word_among}
-use Rattle.line_text.specs.Shapes.{◌and◌, Field, Fields, Makes, bytes_as, bytes_up_to, line_from, no_more, tests}
+use Rattle.line_text.specs.Shapes.{◌and◌, Field, Fields, Makes, bytes_as, bytes_up_to, line_from, no_more, test, tests, value}
 use Rattle.line_text.specs.Tables as table
 use Rattle.line_text.specs.Tables.{Header, Line, Parts, Table}
 use Rattle.verify_text.specs.declared.line.LineWord.{LineWord}
@@ -37,12 +37,18 @@ may_stand verify.Worded words.Signature = true
 may_stand verify.Signed words.End = true
 may_stand _ _ = false
 
--- a key in 56 bytes; where a word has none, this one stands for it, and the word is refused
-abbrev pub any_key : PublicKey
-any_key = record { tree = H5; ots = W1; id = []; root = [] }
+-- a key in 56 bytes, or one of two levels in 60; where a word has none, this one stands for it, and the word is refused
+abbrev pub any_key : Key
+any_key = keys.Lms (record { tree = H5; ots = W1; id = []; root = [] })
 
-abbrev pub key : Field
-key = bytes_as key_in any_key AreKey key-are key-again
+abbrev pub key_field : Field
+key_field = bytes_as key_in any_key AreKey key-are key-again
+
+abbrev pub key : Test
+key word = test key_field word
+
+abbrev pub key_in_word : List ℕ → Key
+key_in_word word = value key_field word
 
 -- how many bytes a message may have
 abbrev pub message_bytes : ℕ
@@ -53,7 +59,7 @@ abbrev pub signature_bytes : ℕ
 signature_bytes = 10000
 
 abbrev pub fields : LineWord → Fields
-fields words.Key = key and no_more
+fields words.Key = key_field and no_more
 fields words.Message = bytes_up_to message_bytes and no_more
 fields words.Signature = bytes_up_to signature_bytes and no_more
 fields words.End = no_more

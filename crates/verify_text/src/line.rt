@@ -1,15 +1,15 @@
 //! The lines that are read.
 
 use fields::Bytes;
-use lms_tree::PublicKey;
+use records::Key;
 
 /// One line of the text.
 #[derive(Debug, Drop)]
 pub enum VerifyLine {
     /// `fireflies 1 verify`
     Header,
-    /// `key HEX`: a public key in 56 bytes.
-    Key(PublicKey),
+    /// `key HEX`: a public key in 56 bytes, or one of two levels in 60.
+    Key(Key),
     /// `message HEX`: 0 to 16,384 bytes.
     Message(Bytes),
     /// `signature HEX`: 0 to 10,000 bytes.
