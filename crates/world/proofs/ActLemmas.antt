@@ -14,8 +14,7 @@ use Rattle.world_rules.specs.Settings.{Setting, setting_of}
 use Rattle.world_rules.specs.Worlds.{Life, World as ModelWorld, spent_of}
 use Rattle.world_rules.specs.Steps.{Execution, NodeEvent, calls, calls_running, host_after, told_in, with_input}
 use Rattle.world_host.specs.Hosts.{HostState}
-use Rattle.lms_ots.specs.declared.OtsKind.{OtsKind}
-use Rattle.lms_tree.specs.declared.TreeKind.{TreeKind}
+use Rattle.sign_keys.specs.declared.kinds.Kinds.{Kinds}
 use Rattle.world_host.specs.Answers.{Calls, CallsRunning, spent_in}
 use Rattle.world_host.specs.Holding.{HoldsHost}
 use Rattle.world.specs.declared.counts.Counts as counted
@@ -47,7 +46,7 @@ counted_on s told events k = AreKept k (fold (λ z e. with_event s z e.what) (co
 
 running-holds : (s : Setting) (before : List NodeEvent) (v : Kept) (c : Execution) (m at : ℕ) (x later : HostState) (sent : List (ℕ × List ℕ)) (k : counted.Counts) (i : Input) (events : List journal.Event) (current : Option Life) → (h : Holds s c.world (before ++ c.told) v)
     → IsPlace v at m → slice_get v.hosts at ≡ Some x → later.member ≡ m → (c.world.hosts m).current ≡ current
-    → CallsRunning s h.ots h.tree i (c.world.hosts m) (spent_of c.world (Some m)) current x later v.sent sent events → counted_on s (before ++ c.told) events k
+    → CallsRunning s h.kinds i (c.world.hosts m) (spent_of c.world (Some m)) current x later v.sent sent events → counted_on s (before ++ c.told) events k
     → let d = calls_running s m i (c.world.hosts m) current c in Holds s d.world (before ++ d.told) (kept_after v at later sent k)
 running-holds s before v c m at x later sent k i events None h is found own idle called counts =
     let same : set v.hosts at later ≡ v.hosts = ap (set v.hosts at) called.2 ∙ set-same v.hosts at x found in
@@ -56,21 +55,21 @@ running-holds s before v c m at x later sent k i events None h is found own idle
     (subst (λ (z : List (ℕ × List ℕ)). Holds s c.world (before ++ c.told) (record v { sent = z; counts = k })) (sym called.1) (holds-recounted s c.world (before ++ c.told) v k kept h))
 running-holds s before v c m at x later sent k i events (Some life) h is found own runs called counts =
     let d : OnDisk = called_on (setting_of s m) life.node i (c.world.hosts m).disk in
-    let calls_own : Calls s h.ots h.tree i (c.world.hosts m) (spent_of c.world (Some m)) life later v.sent sent events = called in
+    let calls_own : Calls s h.kinds i (c.world.hosts m) (spent_of c.world (Some m)) life later v.sent sent events = called in
     let told : events ≡ d.call.told = calls_own.told ∙ ap (λ (n : ℕ). (called_on (setting_of s n) life.node i (c.world.hosts m).disk).call.told) own in
     holds-called s c before v m at later (host_after (c.world.hosts m) (with_input life i d.call.node) d) d.call sent k h is own
-    (subst (λ (es : List journal.Event). HoldsHost s h.ots h.tree (host_after (c.world.hosts m) (with_input life i d.call.node) d) (spent_of c.world (Some m) ++ spent_in m es) later) told
-    (subst (λ (n : ℕ). let e = called_on (setting_of s n) life.node i (c.world.hosts m).disk in HoldsHost s h.ots h.tree (host_after (c.world.hosts m) (with_input life i e.call.node) e) (spent_of c.world (Some m) ++ spent_in n events) later) own calls_own.holds))
+    (subst (λ (es : List journal.Event). HoldsHost s h.kinds (host_after (c.world.hosts m) (with_input life i d.call.node) d) (spent_of c.world (Some m) ++ spent_in m es) later) told
+    (subst (λ (n : ℕ). let e = called_on (setting_of s n) life.node i (c.world.hosts m).disk in HoldsHost s h.kinds (host_after (c.world.hosts m) (with_input life i e.call.node) e) (spent_of c.world (Some m) ++ spent_in n events) later) own calls_own.holds))
     (calls_own.sent ∙ ap (λ (n : ℕ). v.sent ++ (called_on (setting_of s n) life.node i (c.world.hosts m).disk).call.sent) own)
     (subst (λ (es : List journal.Event). counted_on s (before ++ c.told) es k) told counts)
 
 -- the events of the call are what it reports
-running-told : (s : Setting) (v : Kept) (c : Execution) (m : ℕ) (ots : OtsKind) (tree : TreeKind) (x later : HostState) (sent : List (ℕ × List ℕ)) (i : Input) (events : List journal.Event) (current : Option Life) → later.member ≡ m → v.sent ≡ c.world.sent
-    → CallsRunning s ots tree i (c.world.hosts m) (spent_of c.world (Some m)) current x later v.sent sent events
+running-told : (s : Setting) (v : Kept) (c : Execution) (m : ℕ) (kinds : Kinds) (x later : HostState) (sent : List (ℕ × List ℕ)) (i : Input) (events : List journal.Event) (current : Option Life) → later.member ≡ m → v.sent ≡ c.world.sent
+    → CallsRunning s kinds i (c.world.hosts m) (spent_of c.world (Some m)) current x later v.sent sent events
     → (calls_running s m i (c.world.hosts m) current c).told ≡ c.told ++ told_in m (length v.sent) events
-running-told s v c m ots tree x later sent i events None own same called = sym (ap (λ (es : List journal.Event). c.told ++ told_in m (length v.sent) es) called.0 ∙ append-nil c.told)
-running-told s v c m ots tree x later sent i events (Some life) own same called =
-    let calls_own : Calls s ots tree i (c.world.hosts m) (spent_of c.world (Some m)) life later v.sent sent events = called in
+running-told s v c m kinds x later sent i events None own same called = sym (ap (λ (es : List journal.Event). c.told ++ told_in m (length v.sent) es) called.0 ∙ append-nil c.told)
+running-told s v c m kinds x later sent i events (Some life) own same called =
+    let calls_own : Calls s kinds i (c.world.hosts m) (spent_of c.world (Some m)) life later v.sent sent events = called in
     let told : events ≡ (called_on (setting_of s m) life.node i (c.world.hosts m).disk).call.told = calls_own.told ∙ ap (λ (n : ℕ). (called_on (setting_of s n) life.node i (c.world.hosts m).disk).call.told) own in
     ap (λ (es : List journal.Event). c.told ++ told_in m (length c.world.sent) es) (sym told) ∙ ap (λ (z : List (ℕ × List ℕ)). c.told ++ told_in m (length z) events) (sym same)
 
@@ -82,13 +81,13 @@ lines-told base c d m n events is =
 
 -- the node was called, and what it reported is written
 pub calls-goes : (s : Setting) (before : List NodeEvent) (base : List ℕ) (v : Kept) (out later_out : List ℕ) (c : Execution) (m at : ℕ) (x later : HostState) (sent : List (ℕ × List ℕ)) (k : counted.Counts) (i : Input) (events : List journal.Event) → (h : At s before base v out c)
-    → IsPlace v at m → slice_get v.hosts at ≡ Some x → later.member ≡ m → CallsRunning s h.holds.ots h.holds.tree i (c.world.hosts m) (spent_of c.world (Some m)) (c.world.hosts m).current x later v.sent sent events
+    → IsPlace v at m → slice_get v.hosts at ≡ Some x → later.member ≡ m → CallsRunning s h.holds.kinds i (c.world.hosts m) (spent_of c.world (Some m)) (c.world.hosts m).current x later v.sent sent events
     → counted_on s (before ++ c.told) events k → later_out ≡ out ++ call_lines m (length v.sent) events → Goes s before base (kept_after v at later sent k) later_out (Ok (calls s m i c)) (Ok tt)
 unfolding calls
 calls-goes s before base v out later_out c m at x later sent k i events h is found own called counts written =
     let current : Option Life = (c.world.hosts m).current in
     let d : Execution = calls_running s m i (c.world.hosts m) current c in
-    let told = running-told s v c m h.holds.ots h.holds.tree x later sent i events current own h.holds.sent called in (
+    let told = running-told s v c m h.holds.kinds x later sent i events current own h.holds.sent called in (
       d,
       refl,
       record {
@@ -102,9 +101,9 @@ pub numbers-kept : (xs : List HostState) (at : ℕ) (x later : HostState) → sl
 numbers-kept xs at x later found own = numbers-set xs at later (slice_get-map (λ (y : HostState). y.member) xs at ∙ ap (option_map (λ (y : HostState). y.member)) found ∙ ap (λ (k : ℕ). Some k) (sym own))
 
 -- the host at the member's place is as it is meant
-pub place-holds : (s : Setting) (w : ModelWorld) (told : List NodeEvent) (v : Kept) (m at : ℕ) (x : HostState) → (h : Holds s w told v) → IsPlace v at m → slice_get v.hosts at ≡ Some x → HoldsHost s h.ots h.tree (w.hosts m) (spent_of w (Some m)) x
+pub place-holds : (s : Setting) (w : ModelWorld) (told : List NodeEvent) (v : Kept) (m at : ℕ) (x : HostState) → (h : Holds s w told v) → IsPlace v at m → slice_get v.hosts at ≡ Some x → HoldsHost s h.kinds (w.hosts m) (spent_of w (Some m)) x
 place-holds s w told v m at x h is found =
-    subst (λ (k : ℕ). HoldsHost s h.ots h.tree (w.hosts k) (spent_of w (Some k)) x) (number-at v.hosts m at x is found) (host-at s h.ots h.tree w at v.hosts x found h.hosts)
+    subst (λ (k : ℕ). HoldsHost s h.kinds (w.hosts k) (spent_of w (Some k)) x) (number-at v.hosts m at x is found) (host-at s h.kinds w at v.hosts x found h.hosts)
 
 pub recounted : (s : Setting) (told : List NodeEvent) (k : counted.Counts) (es events : List journal.Event) → es ≡ events → AreKept k (fold (λ z e. with_event s z e.what) (counts_of s told) es) → AreKept k (fold (λ z e. with_event s z e.what) (counts_of s told) events)
 recounted s told k es events same h = subst (λ (z : List journal.Event). AreKept k (fold (λ z e. with_event s z e.what) (counts_of s told) z)) same h

@@ -61,14 +61,14 @@ replies-same s before v old new r r2 result same h = subst (λ (z : Result Answe
 
 -- ---- questions
 
-pub asks-none : (s : Setting) (e : disks.Disk) (m : ℕ) (current : Option Life) (ask : rules.Setting → rules.Node → Verdict) (w : ModelWorld) → HoldsCurrent s e m None current → of_life s m current ask w ≡ quiet (begun w)
-asks-none s e m None ask w h = refl
-asks-none s e m (Some life) ask w h = absurd h
+pub asks-none : (s : Setting) (tag : List ℕ) (e : disks.Disk) (m : ℕ) (current : Option Life) (ask : rules.Setting → rules.Node → Verdict) (w : ModelWorld) → HoldsCurrent s tag e m None current → of_life s m current ask w ≡ quiet (begun w)
+asks-none s tag e m None ask w h = refl
+asks-none s tag e m (Some life) ask w h = absurd h
 
-pub asks-some : (s : Setting) (e : disks.Disk) (m : ℕ) (v : node.Kept) (current : Option Life) (ask : rules.Setting → rules.Node → Verdict) (said : Verdict) (w : ModelWorld) → HoldsCurrent s e m (Some v) current
-    → ((life : Life) → HoldsLife s e m v life → ask (setting_of s m) life.node ≡ said) → of_life s m current ask w ≡ says said w
-asks-some s e m v (Some life) ask said w h is = ap (λ (z : Verdict). says z w) (is life h)
-asks-some s e m v None ask said w h is = absurd h
+pub asks-some : (s : Setting) (tag : List ℕ) (e : disks.Disk) (m : ℕ) (v : node.Kept) (current : Option Life) (ask : rules.Setting → rules.Node → Verdict) (said : Verdict) (w : ModelWorld) → HoldsCurrent s tag e m (Some v) current
+    → ((life : Life) → HoldsLife s tag e m v life → ask (setting_of s m) life.node ≡ said) → of_life s m current ask w ≡ says said w
+asks-some s tag e m v (Some life) ask said w h is = ap (λ (z : Verdict). says z w) (is life h)
+asks-some s tag e m v None ask said w h is = absurd h
 
 -- ---- lines
 

@@ -31,7 +31,7 @@ pub record Begun (s : Setting) (w : ModelWorld) (before : List NodeEvent) (v : K
   pub text : behind_text answer ≡ began_text life m (length v.sent) events
 
 pub begun-so : (s : Setting) (w : ModelWorld) (before : List NodeEvent) (v : Kept) (m at life : ℕ) (later : HostState) (events : List journal.Event) (kept : counted.Counts) → (h : Holds s w (before ++ []) v) → IsPlace v at m → later.member ≡ m
-    → StartsNode s h.ots h.tree (w.hosts m) (spent_of w (Some m)) later (Ok (starts.Began life events)) → AreKept kept (fold (λ z e. with_event s z e.what) (counts_of s (before ++ [])) events) → Begun s w before v m at life later events kept
+    → StartsNode s h.kinds (w.hosts m) (spent_of w (Some m)) later (Ok (starts.Began life events)) → AreKept kept (fold (λ z e. with_event s z e.what) (counts_of s (before ++ [])) events) → Begun s w before v m at life later events kept
 unfolding begins_so
 begun-so s w before v m at life later events kept h there own st counts =
     let opened : Host = opened_place (w.hosts m) in
@@ -40,9 +40,9 @@ begun-so s w before v m at life later events kept h there own st counts =
     let d : Execution = in_host m (begun_place opened call) (with_call m call (begun w)) in
     let told : events ≡ call.told = st.1.told ∙ ap (λ (k : ℕ). (call_by k).told) own in
     let sent : call.sent ≡ [] = ap (λ (k : ℕ). (call_by k).sent) (sym own) ∙ st.1.sent in
-    let held : HoldsHost s h.ots h.tree (begun_place opened call) (spent_of w (Some m) ++ spent_in m call.told) later =
-    subst (λ (es : List journal.Event). HoldsHost s h.ots h.tree (begun_place opened call) (spent_of w (Some m) ++ spent_in m es) later) told
-    (subst (λ (k : ℕ). HoldsHost s h.ots h.tree (begun_place opened (call_by k)) (spent_of w (Some m) ++ spent_in k events) later) own st.1.holds) in
+    let held : HoldsHost s h.kinds (begun_place opened call) (spent_of w (Some m) ++ spent_in m call.told) later =
+    subst (λ (es : List journal.Event). HoldsHost s h.kinds (begun_place opened call) (spent_of w (Some m) ++ spent_in m es) later) told
+    (subst (λ (k : ℕ). HoldsHost s h.kinds (begun_place opened (call_by k)) (spent_of w (Some m) ++ spent_in k events) later) own st.1.holds) in
     let line : ℕ → ℕ → List journal.Event → List ℕ = λ number n es. behind_line (Some (verdicts.Began number)) ++ 10 ∷ [] ++ told_lines (told_in m n es) in
     record {
       answer = record { world = d.world; verdict = Some (verdicts.Began (length opened.past + 1)); told = d.told };
@@ -56,7 +56,7 @@ begun-so s w before v m at life later events kept h there own st counts =
 
 -- A life that began at a place is kept.
 abbrev HoldsBegun : Setting → ModelWorld → List NodeEvent → Kept → ℕ → ℕ → HostState → List journal.Event → Type 0
-HoldsBegun s w told v m life later events = (h : Holds s w told v) × StartsNode s h.ots h.tree (w.hosts m) (spent_of w (Some m)) later (Ok (starts.Began life events))
+HoldsBegun s w told v m life later events = (h : Holds s w told v) × StartsNode s h.kinds (w.hosts m) (spent_of w (Some m)) later (Ok (starts.Began life events))
 
 abbrev counted_behind : Setting → List NodeEvent → List journal.Event → Counted
 counted_behind s told events = fold (λ z e. with_event s z e.what) (counts_of s told) events
@@ -71,7 +71,7 @@ began-replies s w before v old new m at life later events kept (Err (faults.Forg
 began-replies s w before v old new m at life later events kept (Err faults.OutOfMemory) h there own counts written = written
 
 pub begun-replies : (s : Setting) (w : ModelWorld) (before : List NodeEvent) (v : Kept) (old new : List ℕ) (m at life : ℕ) (later : HostState) (events : List journal.Event) (kept : counted.Counts) (result : Result (Unit {0}) WorldFault) → (h : Holds s w before v)
-    → StartsNode s h.ots h.tree (w.hosts m) (spent_of w (Some m)) later (Ok (starts.Began life events)) → IsPlace v at m → later.member ≡ m
+    → StartsNode s h.kinds (w.hosts m) (spent_of w (Some m)) later (Ok (starts.Began life events)) → IsPlace v at m → later.member ≡ m
     → OnOk result (AreKept kept (counted_behind s before events)) → WritesText old new (began_text life m (length v.sent) events) result
     → Replies s before (record v { hosts = set v.hosts at later; sent = v.sent; counts = kept }) old new (Ok (starts_if_left s m w)) result
 begun-replies s w before v old new m at life later events kept result h st there own counts written =

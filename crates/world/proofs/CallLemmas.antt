@@ -5,8 +5,7 @@ use Rattle.std.specs.Prelude.{fold, filter_map}
 use Rattle.std.specs.List.{AllByRecursion, cons_option, list_any, slice_get}
 use Rattle.std.proofs.lemmas.List.Elements.{filter_map-append}
 use Rattle.std.proofs.lemmas.Bool.{cases_Bool, eqb-true, eq-eqb, false≢true}
-use Rattle.lms_ots.specs.declared.OtsKind.{OtsKind}
-use Rattle.lms_tree.specs.declared.TreeKind.{TreeKind}
+use Rattle.sign_keys.specs.declared.kinds.Kinds.{Kinds}
 use Rattle.journal.specs.declared.event.Event as journal
 use Rattle.journal.specs.declared.event.What as whats
 use Rattle.journal.specs.declared.event.What.TheVariants as happened
@@ -65,11 +64,11 @@ own-spent m signed events = filter_map-append (spent_if_by (Some m)) signed (sig
 
 -- ---- liars
 
-liars-others : (s : Setting) (ots : OtsKind) (tree : TreeKind) (w later : ModelWorld) (xs : List Liar) → AllByRecursion (λ x. spent_of later (Some x.member) ≡ spent_of w (Some x.member)) xs → AllByRecursion (HoldsLiar s ots tree w) xs → AllByRecursion (HoldsLiar s ots tree later) xs
-liars-others s ots tree w later [] same h = tt
-liars-others s ots tree w later (x ∷ xs) same h = (
+liars-others : (s : Setting) (kinds : Kinds) (w later : ModelWorld) (xs : List Liar) → AllByRecursion (λ x. spent_of later (Some x.member) ≡ spent_of w (Some x.member)) xs → AllByRecursion (HoldsLiar s kinds w) xs → AllByRecursion (HoldsLiar s kinds later) xs
+liars-others s kinds w later [] same h = tt
+liars-others s kinds w later (x ∷ xs) same h = (
   record { key = h.0.key; next = h.0.next ∙ sym (ap length same.0); signed = h.0.signed ∙ sym (ap (map (λ y. y.body)) same.0) },
-  liars-others s ots tree w later xs same.1 h.1,
+  liars-others s kinds w later xs same.1 h.1,
 )
 
 number-apart : (a b : ℕ) → (a ≡ b → ⊥) → eqb a b ≡ false
@@ -87,7 +86,7 @@ all-listed listed (k ∷ numbers) h = (h k (rw (eq-eqb k k refl) refl), all-list
 
 -- one place changes in a call of its node, which reports and sends
 pub holds-called : (s : Setting) (c : Execution) (before : List NodeEvent) (v : Kept) (m at : ℕ) (x : HostState) (place : worlds.Host) (call : Call) (sent : List (ℕ × List ℕ)) (kept : counted.Counts) → (h : Holds s c.world (before ++ c.told) v)
-    → slice_get (numbers v) at ≡ Some m → x.member ≡ m → HoldsHost s h.ots h.tree place (spent_of c.world (Some m) ++ spent_in m call.told) x → sent ≡ v.sent ++ call.sent
+    → slice_get (numbers v) at ≡ Some m → x.member ≡ m → HoldsHost s h.kinds place (spent_of c.world (Some m) ++ spent_in m call.told) x → sent ≡ v.sent ++ call.sent
     → AreKept kept (fold (λ z e. with_event s z e.what) (counts_of s (before ++ c.told)) call.told)
     → let d = in_host m place (with_call m call c) in Holds s d.world (before ++ d.told) (record v { hosts = set v.hosts at x; sent = sent; counts = kept })
 holds-called s c before v m at x place call sent kept h is own new sends counts =
@@ -98,8 +97,7 @@ holds-called s c before v m at x place call sent kept h is own new sends counts 
     let node : is_node s m ≡ true = place-node s (numbers v) m at h.nodes is in
     let else_spent : (k : ℕ) → eqb m k ≡ false → spent_of later (Some k) ≡ spent_of w (Some k) = λ k apart. foreign-call k m w.signed call.told apart in
     record {
-      ots = h.ots;
-      tree = h.tree;
+      kinds = h.kinds;
       world = h.world;
       ranges = h.ranges;
       authority = h.authority;
@@ -108,12 +106,12 @@ holds-called s c before v m at x place call sent kept h is own new sends counts 
       idle = λ k not. at-host k m place middle (λ (z : worlds.Host). z.current ≡ None) (λ same. absurd (false≢true (sym not ∙ ap (is_node s) (sym same) ∙ node))) (λ apart. h.idle k not);
       silent = λ k no_node no_liar. else_spent k (number-apart m k (λ same. absurd (false≢true (sym no_node ∙ ap (is_node s) (sym same) ∙ node)))) ∙ h.silent k no_node no_liar;
       nodes = numbers-set v.hosts at x (is ∙ ap (λ (k : ℕ). Some k) (sym own)) ∙ h.nodes;
-      hosts = host-changes s h.ots h.tree w later m 0 at v.hosts x (subst (Rises 0) (sym h.nodes) (nodes-rise s)) is
+      hosts = host-changes s h.kinds w later m 0 at v.hosts x (subst (Rises 0) (sym h.nodes) (nodes-rise s)) is
           (record { others = λ k apart. record { host = at-other k m place middle apart; spent = else_spent k (swapped k m apart) } })
-          (at-place s h.ots h.tree later place x (at-own x.member m place middle own)
-          (subst (λ (z : List Spent). HoldsHost s h.ots h.tree place z x) (sym (ap (λ (k : ℕ). spent_of later (Some k)) own ∙ own-spent m w.signed call.told)) new)) h.hosts;
+          (at-place s h.kinds later place x (at-own x.member m place middle own)
+          (subst (λ (z : List Spent). HoldsHost s h.kinds place z x) (sym (ap (λ (k : ℕ). spent_of later (Some k)) own ∙ own-spent m w.signed call.told)) new)) h.hosts;
       lying = h.lying;
-      liars = liars-others s h.ots h.tree w later v.liars
+      liars = liars-others s h.kinds w later v.liars
           (liars-spent v.liars (all-listed s.liars (map (λ y. y.member) v.liars) (λ k there. listed-there s.liars (map (λ y. y.member) v.liars) k h.lying there)) else_spent node) h.liars;
       sent = sends ∙ ap (λ (z : List (ℕ × List ℕ)). z ++ call.sent) h.sent;
       flowed = h.flowed;

@@ -6,8 +6,7 @@ use Rattle.std.specs.List.{AllByRecursion, slice_get}
 use Rattle.std.specs.Option.{option_map}
 use Rattle.std.proofs.lemmas.Option.{slice_get-map}
 use Rattle.std.proofs.lemmas.Bool.{eq-eqb, false≢true}
-use Rattle.lms_ots.specs.declared.OtsKind.{OtsKind}
-use Rattle.lms_tree.specs.declared.TreeKind.{TreeKind}
+use Rattle.sign_keys.specs.declared.kinds.Kinds.{Kinds}
 use Rattle.signer.specs.Lives.{Spent}
 use Rattle.world_host.specs.Held.{HoldsDisk, armed_as, crashed}
 use Rattle.world_host.proofs.DiskOpening.{crash_as_told, arm_as_told}
@@ -29,8 +28,8 @@ use Rattle.world.proofs.HostLemmas.{StaysElse, host-changes, host-at, numbers-se
 
 -- ---- a host by itself
 
-pub at-place : (s : Setting) (ots : OtsKind) (tree : TreeKind) (w : ModelWorld) (place : worlds.Host) (x : HostState) → w.hosts x.member ≡ place → HoldsHost s ots tree place (spent_of w (Some x.member)) x → HoldsPlace s ots tree w x
-at-place s ots tree w place x is h = subst (λ (z : worlds.Host). HoldsHost s ots tree z (spent_of w (Some x.member)) x) (sym is) h
+pub at-place : (s : Setting) (kinds : Kinds) (w : ModelWorld) (place : worlds.Host) (x : HostState) → w.hosts x.member ≡ place → HoldsHost s kinds place (spent_of w (Some x.member)) x → HoldsPlace s kinds w x
+at-place s kinds w place x is h = subst (λ (z : worlds.Host). HoldsHost s kinds z (spent_of w (Some x.member)) x) (sym is) h
 
 -- ---- a host stops, or is armed
 
@@ -47,36 +46,38 @@ over-current : (current : Option Life) (place : worlds.Host) → place.current �
 over-current None place is = is
 over-current (Some life) place is = refl
 
-stops-stands : (s : Setting) (ots : OtsKind) (tree : TreeKind) (place : worlds.Host) (spent : List Spent) (x : HostState) (outcome : ℕ) → HoldsHost s ots tree place spent x
-    → HoldsHost s ots tree (life_over place place.current) spent (record x { node = None; disk = crashed outcome x.disk })
-stops-stands s ots tree place spent x outcome h =
+stops-stands : (s : Setting) (kinds : Kinds) (place : worlds.Host) (spent : List Spent) (x : HostState) (outcome : ℕ) → HoldsHost s kinds place spent x
+    → HoldsHost s kinds (life_over place place.current) spent (record x { node = None; disk = crashed outcome x.disk })
+stops-stands s kinds place spent x outcome h =
     record {
+      kinds_are = h.kinds_are;
       public = h.public;
       key = h.key;
       tag = h.tag;
       disk = subst (λ (e : Disk). HoldsDisk x.tag s.indexes (crashed outcome x.disk) e) (sym (over-disk place.current place)) (crash_as_told x.tag s.indexes outcome x.disk place.disk h.disk);
       lives = h.lives ∙ sym (over-past place.past place.current place refl refl);
-      current = subst (λ (z : Option Life). HoldsCurrent s (life_over place place.current).disk x.member None z) (sym (over-current place.current place refl)) tt;
+      current = subst (λ (z : Option Life). HoldsCurrent s x.tag (life_over place place.current).disk x.member None z) (sym (over-current place.current place refl)) tt;
       signed = h.signed;
     }
 
 -- a stop that is armed is nothing to a life
-armed-current : (s : Setting) (e : Disk) (stop : ArmedStop) (m : ℕ) (v : Option node.Kept) (current : Option Life) → HoldsCurrent s e m v current → HoldsCurrent s (record e { armed = Some stop }) m v current
-armed-current s e stop m None None h = tt
-armed-current s e stop m (Some v) (Some life) h = record { is = h.is; going = h.going; open_ = h.open_; seat = h.seat; stored = h.stored }
-armed-current s e stop m None (Some life) h = h
-armed-current s e stop m (Some v) None h = h
+armed-current : (s : Setting) (tag : List ℕ) (e : Disk) (stop : ArmedStop) (m : ℕ) (v : Option node.Kept) (current : Option Life) → HoldsCurrent s tag e m v current → HoldsCurrent s tag (record e { armed = Some stop }) m v current
+armed-current s tag e stop m None None h = tt
+armed-current s tag e stop m (Some v) (Some life) h = record { is = h.is; going = h.going; open_ = h.open_; seat = h.seat; stored = h.stored }
+armed-current s tag e stop m None (Some life) h = h
+armed-current s tag e stop m (Some v) None h = h
 
-arms-stands : (s : Setting) (ots : OtsKind) (tree : TreeKind) (place : worlds.Host) (spent : List Spent) (x : HostState) (stop : ArmedStop) → HoldsHost s ots tree place spent x
-    → HoldsHost s ots tree (with_disk place (record place.disk { armed = Some stop })) spent (record x { disk = record x.disk { armed = armed_as (Some stop) } })
-arms-stands s ots tree place spent x stop h =
+arms-stands : (s : Setting) (kinds : Kinds) (place : worlds.Host) (spent : List Spent) (x : HostState) (stop : ArmedStop) → HoldsHost s kinds place spent x
+    → HoldsHost s kinds (with_disk place (record place.disk { armed = Some stop })) spent (record x { disk = record x.disk { armed = armed_as (Some stop) } })
+arms-stands s kinds place spent x stop h =
     record {
+      kinds_are = h.kinds_are;
       public = h.public;
       key = h.key;
       tag = h.tag;
       disk = arm_as_told x.tag s.indexes x.disk place.disk stop h.disk;
       lives = h.lives;
-      current = armed-current s place.disk stop x.member x.node place.current h.current;
+      current = armed-current s x.tag place.disk stop x.member x.node place.current h.current;
       signed = h.signed;
     }
 
@@ -88,15 +89,15 @@ number-at xs m at x is found = some-same x.member m (sym (slice_get-map (λ (y :
     some-same : (a b : ℕ) → Some a ≡ Some b → a ≡ b
     some-same a b e = cc
 
-pub liars-stay : (s : Setting) (ots : OtsKind) (tree : TreeKind) (w later : ModelWorld) (xs : List Liar) → later.signed ≡ w.signed → AllByRecursion (HoldsLiar s ots tree w) xs → AllByRecursion (HoldsLiar s ots tree later) xs
-liars-stay s ots tree w later [] same h = tt
-liars-stay s ots tree w later (x ∷ xs) same h = (
+pub liars-stay : (s : Setting) (kinds : Kinds) (w later : ModelWorld) (xs : List Liar) → later.signed ≡ w.signed → AllByRecursion (HoldsLiar s kinds w) xs → AllByRecursion (HoldsLiar s kinds later) xs
+liars-stay s kinds w later [] same h = tt
+liars-stay s kinds w later (x ∷ xs) same h = (
   record {
     key = h.0.key;
     next = h.0.next ∙ sym (ap (λ (z : List Signed). length (filter_map (spent_if_by (Some x.member)) z)) same);
     signed = h.0.signed ∙ sym (ap (λ (z : List Signed). map (λ y. y.body) (filter_map (spent_if_by (Some x.member)) z)) same);
   },
-  liars-stay s ots tree w later xs same h.1,
+  liars-stay s kinds w later xs same h.1,
 )
 
 other-number : (k m : ℕ) → eqb k m ≡ false → (k ≡ m → ⊥)
@@ -113,14 +114,13 @@ changed-else m place w = record { others = λ k apart. record { host = at-other 
 
 -- one place changes, and what was signed, sent and named stays
 pub holds-changed : (s : Setting) (w : ModelWorld) (told : List NodeEvent) (v : Kept) (m at : ℕ) (x : HostState) (place : worlds.Host) → (h : Holds s w told v) → slice_get (numbers v) at ≡ Some m → x.member ≡ m
-    → HoldsHost s h.ots h.tree place (spent_of w (Some x.member)) x
+    → HoldsHost s h.kinds place (spent_of w (Some x.member)) x
     → Holds s (with_host m place w) told (record v { hosts = set v.hosts at x })
 holds-changed s w told v m at x place h is own new =
     let later : ModelWorld = with_host m place w in
     let numbers_rise = subst (Rises 0) (sym h.nodes) (nodes-rise s) in
     record {
-      ots = h.ots;
-      tree = h.tree;
+      kinds = h.kinds;
       world = h.world;
       ranges = h.ranges;
       authority = h.authority;
@@ -129,10 +129,10 @@ holds-changed s w told v m at x place h is own new =
       idle = λ k not. at-host k m place w (λ (z : worlds.Host). z.current ≡ None) (λ same. absurd (false≢true (sym not ∙ ap (is_node s) (sym same) ∙ place-node s (numbers v) m at h.nodes is))) (λ apart. h.idle k not);
       silent = h.silent;
       nodes = numbers-set v.hosts at x (is ∙ ap (λ (k : ℕ). Some k) (sym own)) ∙ h.nodes;
-      hosts = host-changes s h.ots h.tree w later m 0 at v.hosts x numbers_rise is (changed-else m place w)
-          (at-place s h.ots h.tree later place x (at-own x.member m place w own) new) h.hosts;
+      hosts = host-changes s h.kinds w later m 0 at v.hosts x numbers_rise is (changed-else m place w)
+          (at-place s h.kinds later place x (at-own x.member m place w own) new) h.hosts;
       lying = h.lying;
-      liars = liars-stay s h.ots h.tree w later v.liars refl h.liars;
+      liars = liars-stay s h.kinds w later v.liars refl h.liars;
       sent = h.sent;
       flowed = h.flowed;
       named = h.named;
@@ -145,17 +145,17 @@ pub stops-holds : (s : Setting) (w : ModelWorld) (told : List NodeEvent) (v : Ke
 stops-holds s w told v m at outcome x h is found =
     let own : x.member ≡ m = number-at v.hosts m at x is found in
     let later : HostState = record x { node = None; disk = crashed outcome x.disk } in
-    let there = host-at s h.ots h.tree w at v.hosts x found h.hosts in
+    let there = host-at s h.kinds w at v.hosts x found h.hosts in
     holds-changed s w told v m at later (life_over (w.hosts m) (w.hosts m).current) h is own
-    (subst (λ (k : ℕ). HoldsHost s h.ots h.tree (life_over (w.hosts k) (w.hosts k).current) (spent_of w (Some x.member)) later) own
-    (stops-stands s h.ots h.tree (w.hosts x.member) (spent_of w (Some x.member)) x outcome there))
+    (subst (λ (k : ℕ). HoldsHost s h.kinds (life_over (w.hosts k) (w.hosts k).current) (spent_of w (Some x.member)) later) own
+    (stops-stands s h.kinds (w.hosts x.member) (spent_of w (Some x.member)) x outcome there))
 
 pub arms-holds : (s : Setting) (w : ModelWorld) (told : List NodeEvent) (v : Kept) (m at : ℕ) (stop : ArmedStop) (x : HostState) → Holds s w told v → slice_get (numbers v) at ≡ Some m → slice_get v.hosts at ≡ Some x
     → Holds s (arms m stop w) told (record v { hosts = set v.hosts at (record x { disk = record x.disk { armed = armed_as (Some stop) } }) })
 arms-holds s w told v m at stop x h is found =
     let own : x.member ≡ m = number-at v.hosts m at x is found in
     let later : HostState = record x { disk = record x.disk { armed = armed_as (Some stop) } } in
-    let there = host-at s h.ots h.tree w at v.hosts x found h.hosts in
+    let there = host-at s h.kinds w at v.hosts x found h.hosts in
     holds-changed s w told v m at later (with_disk (w.hosts m) (record (w.hosts m).disk { armed = Some stop })) h is own
-    (subst (λ (k : ℕ). HoldsHost s h.ots h.tree (with_disk (w.hosts k) (record (w.hosts k).disk { armed = Some stop })) (spent_of w (Some x.member)) later) own
-    (arms-stands s h.ots h.tree (w.hosts x.member) (spent_of w (Some x.member)) x stop there))
+    (subst (λ (k : ℕ). HoldsHost s h.kinds (with_disk (w.hosts k) (record (w.hosts k).disk { armed = Some stop })) (spent_of w (Some x.member)) later) own
+    (arms-stands s h.kinds (w.hosts x.member) (spent_of w (Some x.member)) x stop there))

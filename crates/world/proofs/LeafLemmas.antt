@@ -4,11 +4,12 @@ use Rattle.std.specs.List.{list_any}
 use Rattle.std.proofs.lemmas.Bool.{cases_Bool}
 use Rattle.std.proofs.lemmas.Bool.Decides.{nat_tests}
 use Rattle.ff_ids.specs.declared.Group.{Group}
-use Rattle.lms_ots.specs.declared.OtsKind.{OtsKind}
-use Rattle.lms_tree.specs.declared.TreeKind.{TreeKind}
+use Rattle.sign_keys.specs.declared.kinds.Kinds.{Kinds}
+use Rattle.lms_tree.specs.declared.kind.TreeKind.{TreeKind}
 use Rattle.lms_tree.specs.declared.kind.TreeKind.TheVariants.{H5, H10, H15}
 use Rattle.lms_tree.specs.Kinds.{leaf_count}
-use Rattle.lms_tree.specs.Leaves.{LeavesOf, index_count}
+use Rattle.sign_keys.specs.Keys.{index_count}
+use Rattle.world_host.specs.KeySigning.{KeyState}
 use Rattle.world_rules.specs.Keys.{setting_for}
 use Rattle.world.specs.Holding.{Kept}
 use Rattle.world.specs.Opening.{Builds, HasLeafFor, listed_below}
@@ -79,12 +80,12 @@ listed-left listed n here = omega (arith, few-listed listed n, below-here listed
 -- ---- the key
 
 -- Each that is listed has a leaf: so few are.
-pub has-leaf : (g : Group) (ots : OtsKind) (tree : TreeKind) (correct liars : List ℕ) (n : ℕ) (signing : LeavesOf) (v : Kept) → length correct + length liars ≤ 32 → Builds (setting_for g ots tree correct liars) ots tree n signing v → HasLeafFor (correct ++ liars) signing n
+pub has-leaf : (g : Group) (kinds : Kinds) (correct liars : List ℕ) (n : ℕ) (signing : KeyState) (v : Kept) → length correct + length liars ≤ 32 → Builds (setting_for g kinds correct liars) kinds n signing v → HasLeafFor (correct ++ liars) signing n
 unfolding setting_for
-has-leaf g ots tree correct liars n signing v few h here =
+has-leaf g kinds correct liars n signing v few h here =
     let next : signing.next ≡ length (listed_below (correct ++ liars) n) = h.next in
-    let leaves : index_count signing.key ≡ leaf_count tree = ap index_count h.key in
-    omega (arith, next, leaves, few, listed-left (correct ++ liars) n here, length-append correct liars, many-leaves tree)
+    let leaves : index_count signing.key ≡ leaf_count kinds.tree = ap index_count h.key in
+    omega (arith, next, leaves, few, listed-left (correct ++ liars) n here, length-append correct liars, many-leaves kinds.tree)
 
 pub listed-node : (correct liars : List ℕ) (m : ℕ) → list_any (λ x. eqb x m) correct ≡ true → list_any (λ x. eqb x m) (correct ++ liars) ≡ true
 listed-node correct liars m is = any-either (λ x. eqb x m) correct liars ∙ rw is refl

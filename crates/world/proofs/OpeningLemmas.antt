@@ -6,12 +6,8 @@ use Rattle.std.proofs.lemmas.Bool.{cases_Bool}
 use Rattle.std.proofs.lemmas.List.Elements.{filter-append}
 use Rattle.ff_ids.specs.declared.TheConstants.{MAX_TOLERANCE, MEMBERS}
 use Rattle.ff_ids.specs.declared.Group.{Group}
-use Rattle.lms_ots.specs.declared.OtsKind.{OtsKind}
-use Rattle.lms_tree.specs.declared.TreeKind.{TreeKind}
+use Rattle.sign_keys.specs.declared.kinds.Kinds.{Kinds}
 use Rattle.lms_tree.specs.declared.key.PublicKey.{PublicKey}
-use Rattle.lms_tree.specs.declared.secret.Secret.{Secret}
-use Rattle.lms_tree.specs.Leaves.{LeavesOf}
-use Rattle.lms_tree.specs.Lms.{public_of}
 use Rattle.records.specs.declared.Record.{Record}
 use Rattle.records.specs.declared.Body.{Body}
 use Rattle.records.specs.declared.Body.TheVariants.{Certificate}
@@ -22,7 +18,8 @@ use Rattle.node_core.specs.Rolls.{recs_of}
 use Rattle.node_rules.specs.Nodes.{in_order}
 use Rattle.signer.specs.Lives.{Spent}
 use Rattle.records.specs.declared.keys.Key.TheVariants as keys
-use Rattle.signer.specs.Signing.{public_key}
+use Rattle.sign_keys.specs.Keys.{KeySecret, public_key}
+use Rattle.sign_keys.specs.Kinds.{is_in_profile}
 use Rattle.world_rules.specs.Counts.{nothing_counted}
 use Rattle.world_rules.specs.Keys.{owner_key, setting_for}
 use Rattle.world_rules.specs.Settings.{Setting, Signed, certificate, certificates, certified_from, is_liar, is_node, by_authority, members, nodes, record_of}
@@ -31,11 +28,12 @@ use Rattle.world_rules.proofs.Once.{authority-spent}
 use Rattle.world_host.specs.Certifying.{Certifying}
 use Rattle.world.specs.declared.liar.Liar.{Liar}
 use Rattle.world_host.specs.Hosts.{HostState}
+use Rattle.world_host.specs.KeySigning.{KeyState}
 use Rattle.world_host.specs.Holding.{HoldsHost, IsWorld, made_place}
 use Rattle.world.specs.Counting.{AreKept}
 use Rattle.world.specs.Holding.{Holds, HoldsLiar, HoldsPlace, Kept, given_under}
 use Rattle.world.specs.Testing.{IsClean}
-use Rattle.world.specs.Opening.{AddsLiar, AddsNode, Builds, IsApart, IsNewLiar, listed_below, new_certificate, with_certificate}
+use Rattle.world.specs.Opening.{AddsLiar, AddsNode, Builds, IsApart, IsNewLiar, listed_below, new_certificate, own_half, with_certificate}
 
 -- ---- the numbers below one more
 
@@ -84,25 +82,25 @@ certified-push s i (k ∷ ms) m =
 -- ---- what is new
 
 -- a host where no life has begun stands in the world that is begun
-new-host : (s : Setting) (ots : OtsKind) (tree : TreeKind) (x : HostState) → HoldsHost s ots tree (made_place s) [] x → HoldsPlace s ots tree (begun_world s) x
+new-host : (s : Setting) (kinds : Kinds) (x : HostState) → HoldsHost s kinds (made_place s) [] x → HoldsPlace s kinds (begun_world s) x
 unfolding begun_world
-new-host s ots tree x h = subst (λ (z : List Spent). HoldsHost s ots tree (made_place s) z x) (sym (authority-spent s x.member)) h
+new-host s kinds x h = subst (λ (z : List Spent). HoldsHost s kinds (made_place s) z x) (sym (authority-spent s x.member)) h
 
 -- and so does a liar that has signed nothing
-new-liar : (s : Setting) (ots : OtsKind) (tree : TreeKind) (m : ℕ) (secret : Secret) (x : Liar) → IsNewLiar m secret x → secret ≡ owner_key s.group ots tree (Some m) → HoldsLiar s ots tree (begun_world s) x
+new-liar : (s : Setting) (kinds : Kinds) (m : ℕ) (secret : KeySecret) (x : Liar) → IsNewLiar m secret x → secret ≡ owner_key s.group kinds (Some m) → HoldsLiar s kinds (begun_world s) x
 unfolding begun_world
-new-liar s ots tree m secret x h own =
+new-liar s kinds m secret x h own =
     record {
-      key = ap (λ k. k.key) h.key ∙ own ∙ ap (λ (k : ℕ). owner_key s.group ots tree (Some k)) (sym h.member);
+      key = ap (λ k. k.key) h.key ∙ own ∙ ap (λ (k : ℕ). owner_key s.group kinds (Some k)) (sym h.member);
       next = ap (λ k. k.next) h.key ∙ sym (ap length (authority-spent s x.member));
       signed = h.signed ∙ sym (ap (map (λ y. y.body)) (authority-spent s x.member));
     }
 
 -- the record of the new certificate is the one that the setting tells
-new-record : (g : Group) (ots : OtsKind) (tree : TreeKind) (correct liars : List ℕ) (a : Certifying) (signing : LeavesOf) (m index : ℕ) (secret : Secret) → a.group ≡ g → signing.key ≡ owner_key g ots tree None → signing.next ≡ index → secret ≡ owner_key g ots tree (Some m)
-    → (new_certificate a signing m (public_key secret)).rec ≡ record_of (setting_for g ots tree correct liars) (record { who = None; index = index; body = Certificate (certificate (setting_for g ots tree correct liars) m) })
+new-record : (g : Group) (kinds : Kinds) (correct liars : List ℕ) (a : Certifying) (signing : KeyState) (m index : ℕ) (secret : KeySecret) → a.group ≡ g → signing.key ≡ owner_key g kinds None → signing.next ≡ index → secret ≡ owner_key g kinds (Some m)
+    → (new_certificate a signing m (public_key secret)).rec ≡ record_of (setting_for g kinds correct liars) (record { who = None; index = index; body = Certificate (certificate (setting_for g kinds correct liars) m) })
 unfolding setting_for
-new-record g ots tree correct liars a signing m index secret group key next own = rw (group, key, next, own) refl
+new-record g kinds correct liars a signing m index secret group key next own = rw (group, key, next, own) refl
 
 all-push : {X : Type 0} (P : X → Type 0) (xs : List X) (x : X) → AllByRecursion P xs → P x → AllByRecursion P (xs ++ x ∷ [])
 all-push P [] x h new = (new, tt)
@@ -130,17 +128,17 @@ none-listed listed m not = listed-next listed m ∙ ap (λ (b : Bool). listed_be
 pub one-listed : (listed : List ℕ) (m : ℕ) → list_any (λ x. eqb x m) listed ≡ true → listed_below listed (m + 1) ≡ listed_below listed m ++ m ∷ []
 one-listed listed m is = listed-next listed m ∙ ap (λ (b : Bool). listed_below listed m ++ cond b (m ∷ []) []) is
 
-certified-more : (s : Setting) (ots : OtsKind) (tree : TreeKind) (m : ℕ) (signing : LeavesOf) (v : Kept) (secret : Secret) → s ≡ setting_for v.authority.group ots tree s.correct s.liars → secret ≡ owner_key v.authority.group ots tree (Some m)
-    → (is_node s m || is_liar s m) ≡ true → Builds s ots tree m signing v
-    → recs_of (with_certificate v signing m (public_key secret)).authority.certificates ≡ map (record_of s) (certified_from s 0 (listed_below (s.correct ++ s.liars) (m + 1)))
-certified-more s ots tree m signing v secret made own is h =
+certified-more : (s : Setting) (kinds : Kinds) (m : ℕ) (signing : KeyState) (v : Kept) → s ≡ setting_for v.authority.group kinds s.correct s.liars
+    → (is_node s m || is_liar s m) ≡ true → Builds s kinds m signing v
+    → recs_of (with_certificate v signing m (own_half v kinds m)).authority.certificates ≡ map (record_of s) (certified_from s 0 (listed_below (s.correct ++ s.liars) (m + 1)))
+certified-more s kinds m signing v made is h =
     let listed : List ℕ = listed_below (s.correct ++ s.liars) m in
     let signed : Signed = record { who = None; index = 0 + length listed; body = Certificate (certificate s m) } in
-    let made_so : (new_certificate v.authority signing m (public_key secret)).rec ≡ record_of s signed =
-    subst (λ (z : Setting). (new_certificate v.authority signing m (public_key secret)).rec ≡ record_of z (record { who = None; index = 0 + length listed; body = Certificate (certificate z m) })) (sym made)
-    (new-record v.authority.group ots tree s.correct s.liars v.authority signing m (0 + length listed) secret refl (h.key ∙ ap (λ (g : Group). owner_key g ots tree None) (sym h.group)) (h.next ∙ from-zero (length listed)) own) in
-    map-push (λ (x : CheckedRecord). x.rec) v.authority.certificates (new_certificate v.authority signing m (public_key secret))
-    ∙ ap (λ (z : List Record). z ++ (new_certificate v.authority signing m (public_key secret)).rec ∷ []) h.certified
+    let made_so : (new_certificate v.authority signing m (own_half v kinds m)).rec ≡ record_of s signed =
+    subst (λ (z : Setting). (new_certificate v.authority signing m (own_half v kinds m)).rec ≡ record_of z (record { who = None; index = 0 + length listed; body = Certificate (certificate z m) })) (sym made)
+    (new-record v.authority.group kinds s.correct s.liars v.authority signing m (0 + length listed) (owner_key v.authority.group kinds (Some m)) refl (h.key ∙ ap (λ (g : Group). owner_key g kinds None) (sym h.group)) (h.next ∙ from-zero (length listed)) refl) in
+    map-push (λ (x : CheckedRecord). x.rec) v.authority.certificates (new_certificate v.authority signing m (own_half v kinds m))
+    ∙ ap (λ (z : List Record). z ++ (new_certificate v.authority signing m (own_half v kinds m)).rec ∷ []) h.certified
     ∙ ap (λ (z : Record). map (record_of s) (certified_from s 0 listed) ++ z ∷ []) made_so
     ∙ sym (map-push (record_of s) (certified_from s 0 listed) signed)
     ∙ ap (map (record_of s)) (sym (certified-push s 0 listed m))
@@ -149,9 +147,9 @@ certified-more s ots tree m signing v secret made own is h =
     from-zero : (n : ℕ) → n ≡ 0 + n
     from-zero n = omega arith
 
-next-more : (s : Setting) (ots : OtsKind) (tree : TreeKind) (m : ℕ) (signing later : LeavesOf) (v : Kept) → later ≡ record signing { next = signing.next + 1 } → (is_node s m || is_liar s m) ≡ true → Builds s ots tree m signing v
+next-more : (s : Setting) (kinds : Kinds) (m : ℕ) (signing later : KeyState) (v : Kept) → later ≡ record signing { next = signing.next + 1 } → (is_node s m || is_liar s m) ≡ true → Builds s kinds m signing v
     → later.next ≡ length (listed_below (s.correct ++ s.liars) (m + 1))
-next-more s ots tree m signing later v step is h =
+next-more s kinds m signing later v step is h =
     ap (λ k. k.next) step ∙ ap (λ (n : ℕ). n + 1) h.next ∙ sym (length-push (listed_below (s.correct ++ s.liars) m) m) ∙ ap length (sym (both-listed s m is))
 
 node-either : (s : Setting) (m : ℕ) → is_node s m ≡ true → (is_node s m || is_liar s m) ≡ true
@@ -160,18 +158,18 @@ node-either s m is = rw is refl
 liar-either : (s : Setting) (m : ℕ) → is_liar s m ≡ true → (is_node s m || is_liar s m) ≡ true
 liar-either s m is = elim (cases_Bool (is_node s m)) [ inl holds ↦ rw holds refl | inr fails ↦ rw fails is ]
 
-pub builds-node : (s : Setting) (ots : OtsKind) (tree : TreeKind) (m : ℕ) (signing later : LeavesOf) (v new : Kept) (secret : Secret) → IsWorld s v.authority.group ots tree → secret ≡ owner_key v.authority.group ots tree (Some m) → is_node s m ≡ true → is_liar s m ≡ false
-    → AddsNode v new signing m secret → later ≡ record signing { next = signing.next + 1 } → Builds s ots tree m signing v → Builds s ots tree (m + 1) later new
-builds-node s ots tree m signing later v new secret world own node not a step h =
-    subst (Builds s ots tree (m + 1) later) (sym a.added)
+pub builds-node : (s : Setting) (kinds : Kinds) (m : ℕ) (signing later : KeyState) (v new : Kept) → IsWorld s v.authority.group kinds → is_node s m ≡ true → is_liar s m ≡ false
+    → AddsNode v new signing kinds m → later ≡ record signing { next = signing.next + 1 } → Builds s kinds m signing v → Builds s kinds (m + 1) later new
+builds-node s kinds m signing later v new world node not a step h =
+    subst (Builds s kinds (m + 1) later) (sym a.added)
     (record {
       key = ap (λ k. k.key) step ∙ h.key;
-      next = next-more s ots tree m signing later v step (node-either s m node) h;
+      next = next-more s kinds m signing later v step (node-either s m node) h;
       group = h.group;
       authority = h.authority;
-      certified = certified-more s ots tree m signing v secret world.made own (node-either s m node) h;
+      certified = certified-more s kinds m signing v world.made (node-either s m node) h;
       nodes = map-push (λ (x : HostState). x.member) v.hosts a.host ∙ ap (λ (z : List ℕ). z ++ a.host.member ∷ []) h.nodes ∙ ap (λ (k : ℕ). listed_below s.correct m ++ k ∷ []) a.member ∙ sym (one-listed s.correct m node);
-      hosts = all-push (HoldsPlace s ots tree (begun_world s)) v.hosts a.host h.hosts (new-host s ots tree a.host (a.holds s ots tree world own));
+      hosts = all-push (HoldsPlace s kinds (begun_world s)) v.hosts a.host h.hosts (new-host s kinds a.host (a.holds s world));
       lying = h.lying ∙ sym (none-listed s.liars m not);
       liars = h.liars;
       sent = h.sent;
@@ -181,20 +179,20 @@ builds-node s ots tree m signing later v new secret world own node not a step h 
       counts = h.counts;
     })
 
-pub builds-liar : (s : Setting) (ots : OtsKind) (tree : TreeKind) (m : ℕ) (signing later : LeavesOf) (v new : Kept) (secret : Secret) → IsWorld s v.authority.group ots tree → secret ≡ owner_key v.authority.group ots tree (Some m) → is_node s m ≡ false → is_liar s m ≡ true
-    → AddsLiar v new signing m secret → later ≡ record signing { next = signing.next + 1 } → Builds s ots tree m signing v → Builds s ots tree (m + 1) later new
-builds-liar s ots tree m signing later v new secret world own not liar a step h =
-    subst (Builds s ots tree (m + 1) later) (sym a.added)
+pub builds-liar : (s : Setting) (kinds : Kinds) (m : ℕ) (signing later : KeyState) (v new : Kept) → IsWorld s v.authority.group kinds → is_node s m ≡ false → is_liar s m ≡ true
+    → AddsLiar v new signing kinds m → later ≡ record signing { next = signing.next + 1 } → Builds s kinds m signing v → Builds s kinds (m + 1) later new
+builds-liar s kinds m signing later v new world not liar a step h =
+    subst (Builds s kinds (m + 1) later) (sym a.added)
     (record {
       key = ap (λ k. k.key) step ∙ h.key;
-      next = next-more s ots tree m signing later v step (liar-either s m liar) h;
+      next = next-more s kinds m signing later v step (liar-either s m liar) h;
       group = h.group;
       authority = h.authority;
-      certified = certified-more s ots tree m signing v secret world.made own (liar-either s m liar) h;
+      certified = certified-more s kinds m signing v world.made (liar-either s m liar) h;
       nodes = h.nodes ∙ sym (none-listed s.correct m not);
       hosts = h.hosts;
       lying = map-push (λ (x : Liar). x.member) v.liars a.liar ∙ ap (λ (z : List ℕ). z ++ a.liar.member ∷ []) h.lying ∙ ap (λ (k : ℕ). listed_below s.liars m ++ k ∷ []) a.is_new.member ∙ sym (one-listed s.liars m liar);
-      liars = all-push (HoldsLiar s ots tree (begun_world s)) v.liars a.liar h.liars (new-liar s ots tree m secret a.liar a.is_new (own ∙ ap (λ (g : Group). owner_key g ots tree (Some m)) h.group));
+      liars = all-push (HoldsLiar s kinds (begun_world s)) v.liars a.liar h.liars (new-liar s kinds m (owner_key v.authority.group kinds (Some m)) a.liar a.is_new (ap (λ (g : Group). owner_key g kinds (Some m)) h.group));
       sent = h.sent;
       flowed = h.flowed;
       named = h.named;
@@ -202,8 +200,8 @@ builds-liar s ots tree m signing later v new secret world own not liar a step h 
       counts = h.counts;
     })
 
-pub builds-none : (s : Setting) (ots : OtsKind) (tree : TreeKind) (m : ℕ) (signing : LeavesOf) (v : Kept) → is_node s m ≡ false → is_liar s m ≡ false → Builds s ots tree m signing v → Builds s ots tree (m + 1) signing v
-builds-none s ots tree m signing v no_node no_liar h =
+pub builds-none : (s : Setting) (kinds : Kinds) (m : ℕ) (signing : KeyState) (v : Kept) → is_node s m ≡ false → is_liar s m ≡ false → Builds s kinds m signing v → Builds s kinds (m + 1) signing v
+builds-none s kinds m signing v no_node no_liar h =
     record {
       key = h.key;
       next = h.next ∙ ap length (sym nobody);
@@ -235,30 +233,30 @@ mapped-none f xs none = ap (map f) none
 
 -- ---- the setting that is opened
 
-node-made : (g : Group) (ots : OtsKind) (tree : TreeKind) (correct liars : List ℕ) (m : ℕ) → is_node (setting_for g ots tree correct liars) m ≡ list_any (λ x. eqb x m) correct
+node-made : (g : Group) (kinds : Kinds) (correct liars : List ℕ) (m : ℕ) → is_node (setting_for g kinds correct liars) m ≡ list_any (λ x. eqb x m) correct
 unfolding setting_for
-node-made g ots tree correct liars m = refl
+node-made g kinds correct liars m = refl
 
-pub is-node-made : (g : Group) (ots : OtsKind) (tree : TreeKind) (correct liars : List ℕ) (s : Setting) → s ≡ setting_for g ots tree correct liars → (m : ℕ) (b : Bool) → b ≡ list_any (λ x. eqb x m) correct → is_node s m ≡ b
-is-node-made g ots tree correct liars s is m b here = ap (λ (z : Setting). is_node z m) is ∙ node-made g ots tree correct liars m ∙ sym here
+pub is-node-made : (g : Group) (kinds : Kinds) (correct liars : List ℕ) (s : Setting) → s ≡ setting_for g kinds correct liars → (m : ℕ) (b : Bool) → b ≡ list_any (λ x. eqb x m) correct → is_node s m ≡ b
+is-node-made g kinds correct liars s is m b here = ap (λ (z : Setting). is_node z m) is ∙ node-made g kinds correct liars m ∙ sym here
 
-liar-made : (g : Group) (ots : OtsKind) (tree : TreeKind) (correct liars : List ℕ) (m : ℕ) → is_liar (setting_for g ots tree correct liars) m ≡ list_any (λ x. eqb x m) liars
+liar-made : (g : Group) (kinds : Kinds) (correct liars : List ℕ) (m : ℕ) → is_liar (setting_for g kinds correct liars) m ≡ list_any (λ x. eqb x m) liars
 unfolding setting_for
-liar-made g ots tree correct liars m = refl
+liar-made g kinds correct liars m = refl
 
-pub is-liar-made : (g : Group) (ots : OtsKind) (tree : TreeKind) (correct liars : List ℕ) (s : Setting) → s ≡ setting_for g ots tree correct liars → (m : ℕ) (b : Bool) → b ≡ list_any (λ x. eqb x m) liars → is_liar s m ≡ b
-is-liar-made g ots tree correct liars s is m b here = ap (λ (z : Setting). is_liar z m) is ∙ liar-made g ots tree correct liars m ∙ sym here
+pub is-liar-made : (g : Group) (kinds : Kinds) (correct liars : List ℕ) (s : Setting) → s ≡ setting_for g kinds correct liars → (m : ℕ) (b : Bool) → b ≡ list_any (λ x. eqb x m) liars → is_liar s m ≡ b
+is-liar-made g kinds correct liars s is m b here = ap (λ (z : Setting). is_liar z m) is ∙ liar-made g kinds correct liars m ∙ sym here
 
-pub is-apart : (g : Group) (ots : OtsKind) (tree : TreeKind) (correct liars : List ℕ) (s : Setting) → s ≡ setting_for g ots tree correct liars → IsApart correct liars → (m : ℕ) → is_node s m ≡ true → is_liar s m ≡ false
-is-apart g ots tree correct liars s is apart m node =
-    is-liar-made g ots tree correct liars s is m false (sym (apart m (sym (is-node-made g ots tree correct liars s is m (list_any (λ x. eqb x m) correct) refl) ∙ node)))
+pub is-apart : (g : Group) (kinds : Kinds) (correct liars : List ℕ) (s : Setting) → s ≡ setting_for g kinds correct liars → IsApart correct liars → (m : ℕ) → is_node s m ≡ true → is_liar s m ≡ false
+is-apart g kinds correct liars s is apart m node =
+    is-liar-made g kinds correct liars s is m false (sym (apart m (sym (is-node-made g kinds correct liars s is m (list_any (λ x. eqb x m) correct) refl) ∙ node)))
 
-made-so : (g : Group) (ots : OtsKind) (tree : TreeKind) (correct liars : List ℕ) → setting_for g ots tree correct liars ≡ setting_for g ots tree (setting_for g ots tree correct liars).correct (setting_for g ots tree correct liars).liars
+made-so : (g : Group) (kinds : Kinds) (correct liars : List ℕ) → setting_for g kinds correct liars ≡ setting_for g kinds (setting_for g kinds correct liars).correct (setting_for g kinds correct liars).liars
 unfolding setting_for
-made-so g ots tree correct liars = refl
+made-so g kinds correct liars = refl
 
-pub is-world : (g : Group) (ots : OtsKind) (tree : TreeKind) (correct liars : List ℕ) (s : Setting) → s ≡ setting_for g ots tree correct liars → g.t ≤ MAX_TOLERANCE → IsWorld s g ots tree
-is-world g ots tree correct liars s is few = subst (λ (z : Setting). IsWorld z g ots tree) (sym is) (record { made = made-so g ots tree correct liars; few = few })
+pub is-world : (g : Group) (kinds : Kinds) (correct liars : List ℕ) (s : Setting) → s ≡ setting_for g kinds correct liars → g.t ≤ MAX_TOLERANCE → is_in_profile kinds ≡ true → IsWorld s g kinds
+is-world g kinds correct liars s is few profile = subst (λ (z : Setting). IsWorld z g kinds) (sym is) (record { made = made-so g kinds correct liars; few = few; profile = profile })
 
 -- ---- the beginning and the end
 
@@ -267,20 +265,20 @@ abbrev pub new_authority : Group → PublicKey → Certifying
 new_authority g key = record { group = g; key = key; certificates = [] }
 
 -- Below 0 there is nobody.
-pub builds-first : (g : Group) (ots : OtsKind) (tree : TreeKind) (correct liars : List ℕ) (signing : LeavesOf) (v : Kept) → signing.key ≡ owner_key g ots tree None → signing.next ≡ 0 → v.authority ≡ new_authority g (public_of signing.key)
-    → v.hosts ≡ [] → v.liars ≡ [] → v.sent ≡ [] → v.flowed ≡ 0 → v.named ≡ [] → v.tested ≡ [] → AreKept v.counts nothing_counted → Builds (setting_for g ots tree correct liars) ots tree 0 signing v
+pub builds-first : (g : Group) (kinds : Kinds) (correct liars : List ℕ) (signing : KeyState) (public : PublicKey) (v : Kept) → signing.key ≡ owner_key g kinds None → signing.next ≡ 0 → keys.Lms public ≡ public_key signing.key → v.authority ≡ new_authority g public
+    → v.hosts ≡ [] → v.liars ≡ [] → v.sent ≡ [] → v.flowed ≡ 0 → v.named ≡ [] → v.tested ≡ [] → AreKept v.counts nothing_counted → Builds (setting_for g kinds correct liars) kinds 0 signing v
 unfolding setting_for
-builds-first g ots tree correct liars signing v key next authority nobody no_liar sent flowed named tested counts =
+builds-first g kinds correct liars signing public v key next half authority nobody no_liar sent flowed named tested counts =
     record {
       key = key;
       next = next;
       group = ap (λ a. a.group) authority;
-      authority = ap keys.Lms (ap (λ a. a.key) authority ∙ ap public_of key);
+      authority = ap keys.Lms (ap (λ a. a.key) authority) ∙ half ∙ ap public_key key;
       certified = ap (λ a. recs_of a.certificates) authority;
       nodes = ap (map (λ x. x.member)) nobody;
-      hosts = subst (AllByRecursion (HoldsPlace (setting_for g ots tree correct liars) ots tree (begun_world (setting_for g ots tree correct liars)))) (sym nobody) tt;
+      hosts = subst (AllByRecursion (HoldsPlace (setting_for g kinds correct liars) kinds (begun_world (setting_for g kinds correct liars)))) (sym nobody) tt;
       lying = ap (map (λ x. x.member)) no_liar;
-      liars = subst (AllByRecursion (HoldsLiar (setting_for g ots tree correct liars) ots tree (begun_world (setting_for g ots tree correct liars)))) (sym no_liar) tt;
+      liars = subst (AllByRecursion (HoldsLiar (setting_for g kinds correct liars) kinds (begun_world (setting_for g kinds correct liars)))) (sym no_liar) tt;
       sent = sent;
       flowed = flowed;
       named = named;
@@ -310,12 +308,11 @@ unfolding by_authority begun_world
 first-issued s = bodies-issued s 0 (members s)
 
 -- What is built of all members is the world that is begun.
-pub holds-built : (s : Setting) (ots : OtsKind) (tree : TreeKind) (n : ℕ) (signing : LeavesOf) (v : Kept) → n ≡ MEMBERS → IsWorld s v.authority.group ots tree → IsGroup v.authority.group → ((m : ℕ) → is_node s m ≡ true → is_liar s m ≡ false) → Builds s ots tree n signing v → Holds s (begun_world s) [] v
+pub holds-built : (s : Setting) (kinds : Kinds) (n : ℕ) (signing : KeyState) (v : Kept) → n ≡ MEMBERS → IsWorld s v.authority.group kinds → IsGroup v.authority.group → ((m : ℕ) → is_node s m ≡ true → is_liar s m ≡ false) → Builds s kinds n signing v → Holds s (begun_world s) [] v
 unfolding begun_world
-holds-built s ots tree n signing v all world ranges apart h =
+holds-built s kinds n signing v all world ranges apart h =
     record {
-      ots = ots;
-      tree = tree;
+      kinds = kinds;
       world = world;
       ranges = ranges;
       authority = record { key = h.authority; certified = h.certified ∙ sym (all-certified s n all) };

@@ -4,8 +4,7 @@ use Rattle.std.proofs.Math.ListN.{get_or, set}
 use Rattle.std.specs.Prelude.{fold, Ok}
 use Rattle.std.specs.List.{slice_get}
 use Rattle.std.proofs.lemmas.Option.{slice_get_read}
-use Rattle.lms_ots.specs.declared.OtsKind.{OtsKind}
-use Rattle.lms_tree.specs.declared.TreeKind.{TreeKind}
+use Rattle.sign_keys.specs.declared.kinds.Kinds.{Kinds}
 use Rattle.ff_ids.specs.declared.Group.{Group}
 use Rattle.journal.specs.declared.event.Event as journal
 use Rattle.signer.specs.Lives.{Spent}
@@ -45,7 +44,7 @@ called-place seen v m at x later sent h place = ap (λ (z : List ℕ). slice_get
 -- The call went as it is meant, and what it reported is told.
 pub told-goes : (s : Setting) (before : List NodeEvent) (base : List ℕ) (seen v last : Kept) (out later_out : List ℕ) (k : Execution) (m at : ℕ) (x later : HostState) (sent first : List (ℕ × List ℕ)) (i : Input) (events read : List journal.Event) (counts : counted.Counts)
     → CalledAt seen v at x later → At s before base seen out k → IsPlace seen at m
-    → ((g : Group) (ots : OtsKind) (tree : TreeKind) (place : Place) (spent : List Spent) → IsWorld s g ots tree → HoldsHost s ots tree place spent x → CallsNode s ots tree i place spent x later v.sent sent (Ok events))
+    → ((g : Group) (kinds : Kinds) (place : Place) (spent : List Spent) → IsWorld s g kinds → HoldsHost s kinds place spent x → CallsNode s kinds i place spent x later v.sent sent (Ok events))
     → first ≡ v.sent → read ≡ events → last ≡ kept_after v at later sent counts
     → ((m : ℕ) → IsPlace (kept_after v at later sent v.counts) at m → later_out ≡ out ++ call_lines m (length first) read)
     → ((c : Counts) → numbers (kept_after v at later sent v.counts) ≡ nodes s → AreKept v.counts c → AreKept counts (fold (λ c e. with_event s c e.what) c read))
@@ -55,7 +54,7 @@ told-goes s before base seen v last out later_out k m at x later sent first i ev
     let here : At s before base v out k = record { holds = held; written = is.written } in
     let there : IsPlace v at m = subst (λ (z : Kept). IsPlace z at m) (sym h.same) place in
     let own : later.member ≡ m = h.own ∙ number-at v.hosts m at x there h.found in
-    let called = calls_so v.authority.group held.ots held.tree (k.world.hosts m) (spent_of k.world (Some m)) held.world (place-holds s k.world (before ++ k.told) v m at x held there h.found) in
+    let called = calls_so v.authority.group held.kinds (k.world.hosts m) (spent_of k.world (Some m)) held.world (place-holds s k.world (before ++ k.told) v m at x held there h.found) in
     let numbered : numbers (kept_after v at later sent v.counts) ≡ numbers v = numbers-kept v.hosts at x later h.found h.own in
     let written : later_out ≡ out ++ call_lines m (length v.sent) events =
     lines m (called-place seen v m at x later sent h place) ∙ ap (λ (z : List (ℕ × List ℕ)). out ++ call_lines m (length z) read) first_is ∙ ap (λ (es : List journal.Event). out ++ call_lines m (length v.sent) es) read_is in

@@ -2,8 +2,7 @@
 use Rattle.std.proofs.Common.{◌≡◌, ℕ, List, [], ◌∷◌, ◌++◌, refl, ap, sym, ◌∙◌, subst, append-nil, append_assoc}
 use Rattle.std.specs.Prelude.{fold}
 use Rattle.std.specs.List.{AllByRecursion}
-use Rattle.lms_ots.specs.declared.OtsKind.{OtsKind}
-use Rattle.lms_tree.specs.declared.TreeKind.{TreeKind}
+use Rattle.sign_keys.specs.declared.kinds.Kinds.{Kinds}
 use Rattle.world_rules.specs.Counts.{Counts, counts_of, nothing_counted, with_event}
 use Rattle.world_rules.specs.Settings.{Setting}
 use Rattle.world_rules.specs.Worlds.{World as ModelWorld}
@@ -19,16 +18,15 @@ use Rattle.world.proofs.Clean.{all_clean_still}
 use Rattle.world.proofs.ChangeLemmas.{liars-stay}
 use Rattle.world.proofs.HostLemmas.{StaysAt, host-stays}
 
-hosts-same : (s : Setting) (ots : OtsKind) (tree : TreeKind) (w later : ModelWorld) (xs : List HostState) → ((k : ℕ) → StaysAt w later k) → AllByRecursion (HoldsPlace s ots tree w) xs → AllByRecursion (HoldsPlace s ots tree later) xs
-hosts-same s ots tree w later [] stays h = tt
-hosts-same s ots tree w later (x ∷ xs) stays h = (host-stays s ots tree w later x (stays x.member) h.0, hosts-same s ots tree w later xs stays h.1)
+hosts-same : (s : Setting) (kinds : Kinds) (w later : ModelWorld) (xs : List HostState) → ((k : ℕ) → StaysAt w later k) → AllByRecursion (HoldsPlace s kinds w) xs → AllByRecursion (HoldsPlace s kinds later) xs
+hosts-same s kinds w later [] stays h = tt
+hosts-same s kinds w later (x ∷ xs) stays h = (host-stays s kinds w later x (stays x.member) h.0, hosts-same s kinds w later xs stays h.1)
 
 -- other events were reported, which count the same
 pub holds-told : (s : Setting) (w : ModelWorld) (told later : List NodeEvent) (v : Kept) → counts_of s later ≡ counts_of s told → Holds s w told v → Holds s w later v
 holds-told s w told later v same h =
     record {
-      ots = h.ots;
-      tree = h.tree;
+      kinds = h.kinds;
       world = h.world;
       ranges = h.ranges;
       authority = h.authority;
@@ -74,8 +72,7 @@ pub holds-flowed : (s : Setting) (w : ModelWorld) (told : List NodeEvent) (v : K
 holds-flowed s w told v number h =
     let later : ModelWorld = record w { flowed = number } in
     record {
-      ots = h.ots;
-      tree = h.tree;
+      kinds = h.kinds;
       world = h.world;
       ranges = h.ranges;
       authority = h.authority;
@@ -84,9 +81,9 @@ holds-flowed s w told v number h =
       idle = h.idle;
       silent = h.silent;
       nodes = h.nodes;
-      hosts = hosts-same s h.ots h.tree w later v.hosts (λ k. record { host = refl; spent = refl }) h.hosts;
+      hosts = hosts-same s h.kinds w later v.hosts (λ k. record { host = refl; spent = refl }) h.hosts;
       lying = h.lying;
-      liars = liars-stay s h.ots h.tree w later v.liars refl h.liars;
+      liars = liars-stay s h.kinds w later v.liars refl h.liars;
       sent = h.sent;
       flowed = refl;
       named = h.named;
@@ -98,8 +95,7 @@ holds-flowed s w told v number h =
 pub holds-tested : (s : Setting) (w : ModelWorld) (told : List NodeEvent) (v : Kept) (tested : List (List ℕ)) → AllByRecursion (IsClean s w) tested → Holds s w told v → Holds s w told (record v { tested = tested })
 holds-tested s w told v tested clean h =
     record {
-      ots = h.ots;
-      tree = h.tree;
+      kinds = h.kinds;
       world = h.world;
       ranges = h.ranges;
       authority = h.authority;
@@ -122,8 +118,7 @@ holds-tested s w told v tested clean h =
 pub holds-recounted : (s : Setting) (w : ModelWorld) (told : List NodeEvent) (v : Kept) (k : counted.Counts) → AreKept k (counts_of s told) → Holds s w told v → Holds s w told (record v { counts = k })
 holds-recounted s w told v k kept h =
     record {
-      ots = h.ots;
-      tree = h.tree;
+      kinds = h.kinds;
       world = h.world;
       ranges = h.ranges;
       authority = h.authority;

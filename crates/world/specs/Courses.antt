@@ -3,7 +3,7 @@ use Rattle.std.specs.Prelude.{◌≡◌, ℕ, ◌<◌, Bool, true, false, not, �
 use Rattle.std.specs.List.{position, slice_get}
 use Rattle.std.specs.Option.{option_map, option_map_or}
 use Rattle.ff_ids.specs.Masks.{ring_count}
-use Rattle.lms_tree.specs.Leaves.{index_count}
+use Rattle.sign_keys.specs.Keys.{index_count}
 use Rattle.validate.specs.Certified.{certificate_of}
 use Rattle.records.specs.declared.Body.{Body}
 use Rattle.records.specs.declared.Body.TheVariants.{Note, Accusation}
@@ -186,7 +186,7 @@ signs s key name w (Some body) = lies s key body name w
 abbrev pub liar_place_of : Kept → ℕ → Option ℕ
 liar_place_of v m = position (λ x. x.member == m) v.liars
 
--- The liar there, if there is one, has a leaf left.
+-- The key of the liar there, if there is one, has an index left.
 abbrev pub HasLeafAt : Kept → Option ℕ → Type 0
 HasLeafAt v None = Unit {0}
 HasLeafAt v (Some at) = IfSome (slice_get v.liars at) (λ x. (x.key.next == index_count x.key.key) ≡ false)

@@ -2,8 +2,7 @@
 use Rattle.std.specs.Prelude.{◌≡◌, ℕ, true, false, List, [], Option, Some, None, bytes_eq, find, map}
 use Rattle.std.specs.List.{AllByRecursion}
 use Rattle.std.specs.Option.{option_map}
-use Rattle.lms_ots.specs.declared.OtsKind.{OtsKind}
-use Rattle.lms_tree.specs.declared.TreeKind.{TreeKind}
+use Rattle.sign_keys.specs.declared.kinds.Kinds.{Kinds}
 use Rattle.node_core.specs.Begins.{IsGroup}
 use Rattle.node_rules.specs.Nodes.{in_order}
 use Rattle.world_rules.specs.Settings.{Setting, certificates, is_liar, is_node, nodes}
@@ -43,11 +42,11 @@ abbrev pub given_under : List (List ℕ × List ℕ) → List ℕ → Option (Li
 given_under named name = option_map (λ p. p.1) (find (λ p. bytes_eq name p.0) named)
 
 -- The host of a node is as it is in the world.
-abbrev pub HoldsPlace : Setting → OtsKind → TreeKind → ModelWorld → HostState → Type 0
-HoldsPlace s ots tree w x = HoldsHost s ots tree (w.hosts x.member) (spent_of w (Some x.member)) x
+abbrev pub HoldsPlace : Setting → Kinds → ModelWorld → HostState → Type 0
+HoldsPlace s kinds w x = HoldsHost s kinds (w.hosts x.member) (spent_of w (Some x.member)) x
 
-pub record HoldsLiar (s : Setting) (ots : OtsKind) (tree : TreeKind) (w : ModelWorld) (x : Liar) : Type 0 where
-  pub key : x.key.key ≡ owner_key s.group ots tree (Some x.member)
+pub record HoldsLiar (s : Setting) (kinds : Kinds) (w : ModelWorld) (x : Liar) : Type 0 where
+  pub key : x.key.key ≡ owner_key s.group kinds (Some x.member)
   pub next : x.key.next ≡ next_of_liar w x.member
   pub signed : x.signed.items ≡ map (λ y. y.body) (spent_of w (Some x.member))
 
@@ -55,9 +54,8 @@ pub record HoldsLiar (s : Setting) (ots : OtsKind) (tree : TreeKind) (w : ModelW
 -- both a node and a liar, nobody runs who is no node, nobody signs who is neither a node nor a liar, and the authority signs
 -- nothing but certificates.
 pub record Holds (s : Setting) (w : ModelWorld) (told : List NodeEvent) (v : Kept) : Type 0 where
-  pub ots : OtsKind
-  pub tree : TreeKind
-  pub world : IsWorld s v.authority.group ots tree
+  pub kinds : Kinds
+  pub world : IsWorld s v.authority.group kinds
   pub ranges : IsGroup v.authority.group
   pub authority : Certifies s v.authority
   pub issued : map (λ y. y.body) (spent_of w None) ≡ map (λ r. r.body) (certificates s)
@@ -65,9 +63,9 @@ pub record Holds (s : Setting) (w : ModelWorld) (told : List NodeEvent) (v : Kep
   pub idle : (m : ℕ) → is_node s m ≡ false → (w.hosts m).current ≡ None
   pub silent : (m : ℕ) → is_node s m ≡ false → is_liar s m ≡ false → spent_of w (Some m) ≡ []
   pub nodes : map (λ x. x.member) v.hosts ≡ nodes s
-  pub hosts : AllByRecursion (HoldsPlace s ots tree w) v.hosts
+  pub hosts : AllByRecursion (HoldsPlace s kinds w) v.hosts
   pub lying : map (λ x. x.member) v.liars ≡ in_order s.liars
-  pub liars : AllByRecursion (HoldsLiar s ots tree w) v.liars
+  pub liars : AllByRecursion (HoldsLiar s kinds w) v.liars
   pub sent : v.sent ≡ w.sent
   pub flowed : v.flowed ≡ w.flowed
   pub named : (name : List ℕ) → given_under v.named name ≡ option_map given_bytes (named_so w name)

@@ -1,7 +1,10 @@
 //! Calls and starts of nodes, and what they report.
 
-ghost use Rattle.std.specs.Prelude.{◌≡◌, ◌<◌, ℕ, List, Ok, OnOk, false, fold, length};
+ghost use Rattle.std.specs.Prelude.{◌≡◌, ◌<◌, ℕ, List, Ok, IfOk, OnOk, false, fold, length};
+ghost use Rattle.datagram.specs.Grammar.{GivesDatagram, read_of};
+ghost use Rattle.datagram.specs.Spelling.{IsWritable};
 ghost use Rattle.node_rules.specs.Lives.{Delivers, Leaves, Ticks};
+ghost use Rattle.world_host.specs.Answers.{IsRead};
 ghost use Rattle.world_rules.specs.Counts.{Counts as Counted, with_event};
 ghost use Rattle.world_rules.specs.Settings.{Setting, nodes};
 ghost use Rattle.world_rules.specs.Steps.{Execution, NodeEvent, calls};
@@ -13,9 +16,11 @@ ghost use Rattle.world.specs.Telling.{call_lines};
 
 use crate::telling::add_events;
 use crate::{World, WorldFault};
+use datagram::Datagram;
 use fields::NoMemory;
 use journal::{Event, What};
 use node_core::Events;
+use records::FormFault;
 use world_host::Started;
 use world_rules::{RefusalReason, Verdict};
 
@@ -72,22 +77,25 @@ impl World {
         add_events(self.alloc, self.hosts[at].member(), before, events, out)
     }
 
-    /// Hands the bytes to the node at this host, if it runs.
+    /// Hands what was read of the bytes of a datagram to the node at this host, if it runs.
     pub(crate) fn call(
         &mut self,
         at: usize,
-        bytes: &[u8],
+        heard: Result<Datagram, FormFault>,
         out: &mut Vec<u8>,
     ) -> Result<(), WorldFault>
-        requires { at < length self.old.hosts }
+        requires at { at < length self.old.hosts }
+        requires writable { IfOk heard (λ d. IsWritable d) }
+        requires read { IsRead heard }
         ensures numbers { numbers self.new ≡ numbers self.old }
-        ensures calls { (s : Setting) (before : List NodeEvent) (base : List ℕ) (c : Execution)
+        ensures calls { (bytes : List ℕ) → GivesDatagram (read_of bytes) heard
+            → (s : Setting) (before : List NodeEvent) (base : List ℕ) (c : Execution)
             (m : ℕ) → At s before base self.old out.old.items c → IsPlace self.old at m
-            → Goes s before base self.new out.new.items (Ok (calls s m (Delivers bytes.now) c))
+            → Goes s before base self.new out.new.items (Ok (calls s m (Delivers bytes) c))
             result }
     {
         let before = self.sent.as_slice().len();
-        let events = self.hosts[at].deliver(self.alloc, bytes, &mut self.sent)?;
+        let events = self.hosts[at].deliver(self.alloc, heard, &mut self.sent)?;
         self.tell_all(at, before, events.as_slice(), out)?;
         Ok(())
     }

@@ -5,6 +5,7 @@ ghost use Rattle.std.specs.Prelude.{◌≡◌, ◌<◌, ◌++◌, ◌∷◌, [],
 ghost use Rattle.std.specs.List.{list_any};
 ghost use Rattle.std.specs.Option.{option_and_then};
 ghost use Rattle.std.specs.Result.{is_ok};
+ghost use Rattle.datagram.specs.Grammar.{GivesDatagram, read_of};
 ghost use Rattle.datagram.specs.Spelling.{IsSignedRecord, IsWritable as IsSendable, KeepsRules};
 ghost use Rattle.records.specs.Keys.{verdict_of};
 ghost use Rattle.records.specs.Signing.{signed_bytes as signed_bytes_of};
@@ -18,7 +19,7 @@ ghost use Rattle.world.specs.Holding.{Holds, numbers};
 ghost use Rattle.world.specs.Testing.{IsForged, forged_in};
 
 use crate::{World, WorldFault};
-use datagram::{Datagram, read};
+use datagram::Datagram;
 use ff_ids::{Group, MemberId};
 use fields::NoMemory;
 use indexmap::IndexSet;
@@ -108,8 +109,7 @@ impl World {
             → result ≡ is_forged_for s w rec.now (Some m) }
     {
         let host = &self.hosts[at];
-        !host.has_signed(&rec.body)
-            && verifies(self.authority.group(), &Key::Lms(*host.public()), rec)
+        !host.has_signed(&rec.body) && verifies(self.authority.group(), host.public(), rec)
     }
 
     /// The first node for which the record is forged.
@@ -191,14 +191,17 @@ impl World {
         }
     }
 
-    /// Refuses a datagram in which a record is forged.
-    pub(crate) fn test(&mut self, bytes: &[u8]) -> Result<(), WorldFault>
+    /// Refuses what was read of the bytes of a datagram, if a record in it is forged.
+    pub(crate) fn test(&mut self, heard: &Result<Datagram, FormFault>) -> Result<(), WorldFault>
+        requires writable { IfOk heard.now (λ d. IsSendable d) }
+        requires rules { IfOk heard.now (λ d. KeepsRules d) }
         ensures numbers { numbers self.new ≡ numbers self.old }
-        ensures tests { (s : Setting) (w : ModelWorld) (told : List NodeEvent)
-            → Holds s w told self.old → Tests s w told self.new (forgery s w bytes.now) result }
+        ensures tests { (bytes : List ℕ) → GivesDatagram (read_of bytes) heard.now
+            → (s : Setting) (w : ModelWorld) (told : List NodeEvent)
+            → Holds s w told self.old → Tests s w told self.new (forgery s w bytes) result }
     {
-        match read(self.alloc, bytes) {
-            Ok(datagram) => self.test_datagram(&datagram),
+        match heard {
+            Ok(datagram) => self.test_datagram(datagram),
             Err(FormFault::BadForm { .. }) => Ok(()),
             Err(FormFault::OutOfMemory) => Err(WorldFault::OutOfMemory),
         }

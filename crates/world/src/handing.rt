@@ -13,6 +13,7 @@ ghost use Rattle.world.specs.Telling.{told_line};
 
 use crate::telling::add_event;
 use crate::{World, WorldFault};
+use datagram::read;
 use ff_ids::MemberId;
 use fields::NoMemory;
 use journal::{Event, What};
@@ -31,8 +32,9 @@ impl World {
             (m : ℕ) → At s before base self.old out.old.items c → IsPlace self.old at m
             → Goes s before base self.new out.new.items (hands s m bytes.now c) result }
     {
-        match self.test(bytes) {
-            Ok(()) => self.call(at, bytes, out),
+        let heard = read(self.alloc, bytes);
+        match self.test(&heard) {
+            Ok(()) => self.call(at, heard, out),
             Err(fault) => Err(fault),
         }
     }

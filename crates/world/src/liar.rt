@@ -1,18 +1,18 @@
 //! A liar: a member whose key the schedule uses.
 
 ghost use Rattle.std.specs.Prelude.{◌≡◌, ◌∷◌, [], IfNone, IfOk, IfSome};
-ghost use Rattle.datagram.specs.declared.Datagram.TheVariants as kinds;
+ghost use Rattle.datagram.specs.declared.Datagram.TheVariants as datagrams;
 ghost use Rattle.datagram.specs.Spelling.{datagram_bytes};
-ghost use Rattle.lms_tree.specs.Leaves.{index_count};
 ghost use Rattle.records.specs.Spelling.{HasPort};
+ghost use Rattle.sign_keys.specs.Keys.{IsNew, index_count, secret_of};
 ghost use Rattle.signer.specs.Signing.{signed_by};
 ghost use Rattle.world.specs.Lying.{Lied};
 
 use datagram::records_head;
 use ff_ids::{Group, MemberId};
 use fields::{Bytes, NoMemory};
-use lms_tree::SecretKey;
 use records::{Body, Checked, write_record};
+use sign_keys::SignKey;
 use std::alloc::Global;
 use world_host::SigningKey;
 
@@ -35,7 +35,7 @@ impl Given {
     pub fn of(alloc: Global, from: MemberId, checked: &Checked) -> Result<Given, NoMemory>
         ensures { IfOk result
             (λ given. given.bytes
-            ≡ datagram_bytes (kinds.Records from (checked.now.rec ∷ []))) }
+            ≡ datagram_bytes (datagrams.Records from (checked.now.rec ∷ []))) }
     {
         let mut bytes = Vec::new(alloc);
         bytes.extend_from_slice(&records_head(from, 1))?;
@@ -47,10 +47,11 @@ impl Given {
 }
 
 impl Liar {
-    /// A liar that has signed nothing.
-    pub fn open(alloc: Global, member: MemberId, key: SecretKey) -> Liar
+    /// A liar that has signed nothing, with a key of which no index was handed out.
+    pub fn open(alloc: Global, member: MemberId, key: SignKey) -> Liar
+        requires { IsNew key (secret_of key) }
         ensures member { result.member ≡ member }
-        ensures key { result.key ≡ record { key = key; next = 0 } }
+        ensures key { result.key ≡ record { key = secret_of key; next = 0 } }
         ensures signed { result.signed.items ≡ [] }
     {
         Liar {
@@ -60,7 +61,7 @@ impl Liar {
         }
     }
 
-    /// Signs the body in the group; none where no leaf is left.
+    /// Signs the body in the group; none where no index is left.
     pub fn sign(
         &mut self,
         alloc: Global,

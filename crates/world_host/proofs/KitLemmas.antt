@@ -6,7 +6,6 @@ use Rattle.std.proofs.lemmas.Bool.Decides.{nat_tests}
 use Rattle.std.proofs.lemmas.List.Folds.{list_any-append}
 use Rattle.ff_ids.specs.declared.TheConstants.{MEMBERS}
 use Rattle.ff_ids.specs.Views.{all_numbers}
-use Rattle.lms_tree.specs.declared.key.PublicKey.{PublicKey}
 use Rattle.records.specs.declared.keys.Key.{Key}
 use Rattle.records.specs.declared.keys.Key.TheVariants as keys
 use Rattle.records.specs.declared.CertBody.{CertBody}
@@ -18,6 +17,7 @@ use Rattle.node_core.specs.Begins.{AreCertificatesOf, HasKey, IsCheckedIn, IsGro
 use Rattle.node_core.specs.Rolls.{AreApart, IsOfOther, recs_of}
 use Rattle.node_core.specs.declared.kit.Kit.{Kit}
 use Rattle.world_rules.specs.Settings.{Setting, by_authority, certificate, certificates, certified_from, is_node, members, record_of}
+use Rattle.sign_keys.specs.declared.kinds.Kinds.{Kinds}
 use Rattle.world_host.specs.Certifying.{Certifying}
 use Rattle.world_host.specs.Holding.{IsPlaceOf}
 use Rattle.world_host.proofs.WorldLemmas.{own-public}
@@ -101,19 +101,19 @@ each P [] h = tt
 each {X = X} P (x ∷ xs) h = (h 0 x (omega arith), each P xs (λ k d lt. h (suc k) d (omega (arith, lt))))
 
 -- The kit of a node of a world is sound for its key.
-pub kit-sound : (a : Certifying) (m : ℕ) (own : PublicKey) (kit : Kit) → m < MEMBERS → IsPlaceOf a m own → kit.group ≡ a.group → kit.me ≡ m → kit.certificates.items ≡ a.certificates
-    → All (IsCheckedIn kit.group (keys.Lms kit.authority)) kit.certificates.items → All IsChecked kit.certificates.items → IsKit kit (keys.Lms own)
-kit-sound a m own kit low p group me same checked verify =
+pub kit-sound : (a : Certifying) (kinds : Kinds) (m : ℕ) (own : Key) (kit : Kit) → m < MEMBERS → IsPlaceOf a kinds m own → kit.group ≡ a.group → kit.me ≡ m → kit.certificates.items ≡ a.certificates
+    → All (IsCheckedIn kit.group (keys.Lms kit.authority)) kit.certificates.items → All IsChecked kit.certificates.items → IsKit kit own
+kit-sound a kinds m own kit low p group me same checked verify =
     let s : Setting = p.setting in
     let recs : recs_of kit.certificates.items ≡ certificates s = ap recs_of same ∙ p.authority.certified in
-    let public : keys.Lms own ≡ s.key (Some m) = ap keys.Lms p.public ∙ sym (own-public s a.group p.ots p.tree m p.world) in
+    let public : own ≡ s.key (Some m) = p.public ∙ sym (own-public s a.group kinds m p.world) in
     record {
       group = subst IsGroup (sym group) p.group;
       checked = checked;
-      certificates = subst (λ (j : ℕ). AreCertificatesOf j (keys.Lms own) kit.certificates.items) (sym me) (record {
+      certificates = subst (λ (j : ℕ). AreCertificatesOf j own kit.certificates.items) (sym me) (record {
         apart = subst AreApart (sym recs) (kit-apart s);
         among = subst (λ (rs : List Record). list_any (λ r. is_certificate_for m r.body) rs ≡ true) (sym recs) (kit-among s m low p.node);
-        keys = subst (λ (rs : List Record). AllByRecursion (HasKey m (keys.Lms own)) rs) (sym recs) (kit-keys s m (keys.Lms own) public);
+        keys = subst (λ (rs : List Record). AllByRecursion (HasKey m own) rs) (sym recs) (kit-keys s m own public);
         verify = each IsChecked kit.certificates.items verify;
       });
     }

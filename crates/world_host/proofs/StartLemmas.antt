@@ -4,8 +4,7 @@ use Rattle.std.specs.Prelude.{IfErr, IfOk, IfSome, option_to_list}
 use Rattle.std.proofs.lemmas.Bool.Decides.{nat_tests}
 use Rattle.fields.specs.declared.NoMemory.{NoMemory}
 use Rattle.ff_ids.specs.declared.Group.{Group}
-use Rattle.lms_ots.specs.declared.OtsKind.{OtsKind}
-use Rattle.lms_tree.specs.declared.TreeKind.{TreeKind}
+use Rattle.sign_keys.specs.declared.kinds.Kinds.{Kinds}
 use Rattle.ports.specs.MemoryDisk.{DiskState}
 use Rattle.ports.specs.DiskSteps.{Came, runs}
 use Rattle.records.specs.declared.Record.{Record}
@@ -20,7 +19,7 @@ use Rattle.journal.specs.declared.event.Event as journal
 use Rattle.node_rules.specs.Calls.{Call}
 use Rattle.node_rules.specs.Replies.{first_mask}
 use Rattle.records.specs.declared.keys.Key.{Key}
-use Rattle.lms_tree.specs.Leaves.{index_count}
+use Rattle.sign_keys.specs.Keys.{index_count}
 use Rattle.node_rules.specs.Nodes as node
 use Rattle.node_core.specs.declared.NodeFault.{NodeFault}
 use Rattle.node_core.specs.declared.NodeFault.TheVariants as faults
@@ -40,7 +39,7 @@ use Rattle.world_rules.proofs.Once.{one-started}
 use Rattle.world_host.specs.declared.starting.Started.{Started}
 use Rattle.world_host.specs.declared.starting.Started.TheVariants as starts
 use Rattle.world_host.specs.Answers.{Begins, BeginsAt, BeginsLife, BeginsNode, FailsToBegin, IsStart, StartsNode, StopsAt, bodies_in, opened_place}
-use Rattle.world_host.specs.Holding.{HoldsCurrent, HoldsHost, IsWorld, tag_of}
+use Rattle.world_host.specs.Holding.{HoldsCurrent, HoldsHost, IsWorld}
 use Rattle.world_host.specs.Hosts.{HostState, IsGoing}
 use Rattle.world_host.proofs.SpentLemmas.{signed-behind}
 use Rattle.world_host.proofs.WorldLemmas.{few-indexes, few-rings, group-is}
@@ -48,55 +47,55 @@ use Rattle.world_host.proofs.WorldLemmas.{few-indexes, few-rings, group-is}
 some-same : {T : Type 0} (x y : T) → Some x ≡ Some y → x ≡ y
 some-same x y is = cc
 
-pub nonces-are : (s : Setting) (g : Group) (ots : OtsKind) (tree : TreeKind) (m first : ℕ) → IsWorld s g ots tree → s.nonces m first ≡ nonce_seed (world_secret g.tag m) first
+pub nonces-are : (s : Setting) (g : Group) (kinds : Kinds) (m first : ℕ) → IsWorld s g kinds → s.nonces m first ≡ nonce_seed (world_secret g.tag m) first
 unfolding setting_for
-nonces-are s g ots tree m first w = ap (λ (x : Setting). x.nonces m first) w.made
+nonces-are s g kinds m first w = ap (λ (x : Setting). x.nonces m first) w.made
 
 -- what the store is to keep is what the first note leaves
-kept-is : (s : Setting) (g : Group) (ots : OtsKind) (tree : TreeKind) (m : ℕ) (stored : Stored) → IsWorld s g ots tree → kept_first g.t m stored ≡ (first_call s m stored).node.stored
-kept-is s g ots tree m stored w =
-    ap (λ (x : Group). stored_after stored (next_note stored m (record { 0 = first_mask x.t stored.mask.0 }))) (sym (group-is s g ots tree w))
+kept-is : (s : Setting) (g : Group) (kinds : Kinds) (m : ℕ) (stored : Stored) → IsWorld s g kinds → kept_first g.t m stored ≡ (first_call s m stored).node.stored
+kept-is s g kinds m stored w =
+    ap (λ (x : Group). stored_after stored (next_note stored m (record { 0 = first_mask x.t stored.mask.0 }))) (sym (group-is s g kinds w))
     ∙ sym (one-started (setting_of s m) (s.nonces m stored.next) (certificates s) stored).stored
 
 test-left : (next indexes : ℕ) → next < indexes → eqb next indexes ≡ false
 test-left next indexes left = grind (arith, nat_tests, left)
 
-put-first : (s : Setting) (g : Group) (ots : OtsKind) (tree : TreeKind) (m : ℕ) (tag : List ℕ) (e : Disk) (d : DiskState) → IsWorld s g ots tree → HoldsDisk tag s.indexes d e → e.state.next < s.indexes
+put-first : (s : Setting) (g : Group) (kinds : Kinds) (m : ℕ) (tag : List ℕ) (e : Disk) (d : DiskState) → IsWorld s g kinds → HoldsDisk tag s.indexes d e → e.state.next < s.indexes
     → let kept = (first_call s m e.state).node.stored in ComesAs tag s.indexes (runs (put_calls (seat_of tag e) kept) d) (put_passes e) (after_put kept e) (stopped_in_put kept e)
-put-first s g ots tree m tag e d w h left =
-    start_as_told tag (s.nonces m e.state.next) (certificates s) (setting_of s m) d e (few-rings s g ots tree w) (few-indexes s g ots tree w) h (ap not (test-left e.state.next s.indexes left))
+put-first s g kinds m tag e d w h left =
+    start_as_told tag (s.nonces m e.state.next) (certificates s) (setting_of s m) d e (few-rings s g kinds w) (few-indexes s g kinds w) h (ap not (test-left e.state.next s.indexes left))
 
-calls-are : (s : Setting) (g : Group) (ots : OtsKind) (tree : TreeKind) (m : ℕ) (seat : Seat) (tag : List ℕ) (e : Disk) (d : DiskState) (came : Came) → IsWorld s g ots tree → seat ≡ seat_of tag e → Some came ≡ Some (runs (put_calls seat (kept_first g.t m e.state)) d)
+calls-are : (s : Setting) (g : Group) (kinds : Kinds) (m : ℕ) (seat : Seat) (tag : List ℕ) (e : Disk) (d : DiskState) (came : Came) → IsWorld s g kinds → seat ≡ seat_of tag e → Some came ≡ Some (runs (put_calls seat (kept_first g.t m e.state)) d)
     → runs (put_calls (seat_of tag e) (first_call s m e.state).node.stored) d ≡ came
-calls-are s g ots tree m seat tag e d came w at so =
-    ap (λ (k : Stored). runs (put_calls (seat_of tag e) k) d) (sym (kept-is s g ots tree m e.state w)) ∙ ap (λ (place : Seat). runs (put_calls place (kept_first g.t m e.state)) d) (sym at) ∙ sym (some-same _ _ so)
+calls-are s g kinds m seat tag e d came w at so =
+    ap (λ (k : Stored). runs (put_calls (seat_of tag e) k) d) (sym (kept-is s g kinds m e.state w)) ∙ ap (λ (place : Seat). runs (put_calls place (kept_first g.t m e.state)) d) (sym at) ∙ sym (some-same _ _ so)
 
 started-so : (s : Setting) (m : ℕ) (seed : List ℕ) (records : List Record) (stored : Stored) (v : Kept) (after : List journal.Event) → seed ≡ s.nonces m stored.next → records ≡ certificates s
     → Starts (setting_of s m) seed records stored v [] after → Starts (setting_of s m) (s.nonces m stored.next) (certificates s) stored v [] after
 started-so s m seed records stored v after seeded certified starts =
     subst (λ (rs : List Record). Starts (setting_of s m) (s.nonces m stored.next) rs stored v [] after) certified (subst (λ (x : List ℕ). Starts (setting_of s m) x records stored v [] after) seeded starts)
 
-pub begins-so : (s : Setting) (g : Group) (ots : OtsKind) (tree : TreeKind) (m : ℕ) (seat : Seat) (tag seed : List ℕ) (records : List Record) (e : Disk) (d r : DiskState) (v : Kept) (after : List journal.Event) → IsWorld s g ots tree
+pub begins-so : (s : Setting) (g : Group) (kinds : Kinds) (m : ℕ) (seat : Seat) (tag seed : List ℕ) (records : List Record) (e : Disk) (d r : DiskState) (v : Kept) (after : List journal.Event) → IsWorld s g kinds
     → HoldsDisk tag s.indexes d e → seed ≡ s.nonces m e.state.next → records ≡ certificates s → seat ≡ seat_of tag e → Starts (setting_of s m) seed records e.state v [] after → e.state.next < s.indexes
-    → Some (record { disk = r; failed = false }) ≡ Some (runs (put_calls seat (kept_first g.t m e.state)) d) → v.ended ≡ false → v.signer.closed ≡ false → v.signer.seat ≡ next_seat seat (kept_first g.t m e.state) → tag ≡ tag_of s m → Begins s tag m e r after v
-begins-so s g ots tree m seat tag seed records e d r v after w h seeded certified at starts left came going free behind mark =
+    → Some (record { disk = r; failed = false }) ≡ Some (runs (put_calls seat (kept_first g.t m e.state)) d) → v.ended ≡ false → v.signer.closed ≡ false → v.signer.seat ≡ next_seat seat (kept_first g.t m e.state) → Begins s tag m e r after v
+begins-so s g kinds m seat tag seed records e d r v after w h seeded certified at starts left came going free behind =
     let kept : Stored = (first_call s m e.state).node.stored in
     let now = started-so s m seed records e.state v after seeded certified starts in
-    let came_so = comes_passed tag s.indexes _ r (put_passes e) (after_put kept e) (stopped_in_put kept e) (calls-are s g ots tree m seat tag e d (record { disk = r; failed = false }) w at came) (put-first s g ots tree m tag e d w h left) in
+    let came_so = comes_passed tag s.indexes _ r (put_passes e) (after_put kept e) (stopped_in_put kept e) (calls-are s g kinds m seat tag e d (record { disk = r; failed = false }) w at came) (put-first s g kinds m tag e d w h left) in
     record {
       left = test-left e.state.next s.indexes left;
       passes = came_so.0;
       disk = came_so.1;
-      life = record { is = now.is; going = going; open_ = free; seat = behind ∙ ap (next_seat seat) (kept-is s g ots tree m e.state w) ∙ one-behind tag e kept seat at ∙ ap (λ (t : List ℕ). seat_of t (after_put kept e)) mark; stored = refl };
+      life = record { is = now.is; going = going; open_ = free; seat = behind ∙ ap (next_seat seat) (kept-is s g kinds m e.state w) ∙ one-behind tag e kept seat at; stored = refl };
       told = now.told;
       sent = now.sent;
     }
 
-pub fails-so : (s : Setting) (g : Group) (ots : OtsKind) (tree : TreeKind) (m : ℕ) (seat : Seat) (tag : List ℕ) (e : Disk) (d r : DiskState) → IsWorld s g ots tree → HoldsDisk tag s.indexes d e → seat ≡ seat_of tag e → e.state.next < s.indexes
+pub fails-so : (s : Setting) (g : Group) (kinds : Kinds) (m : ℕ) (seat : Seat) (tag : List ℕ) (e : Disk) (d r : DiskState) → IsWorld s g kinds → HoldsDisk tag s.indexes d e → seat ≡ seat_of tag e → e.state.next < s.indexes
     → Some (record { disk = r; failed = true }) ≡ Some (runs (put_calls seat (kept_first g.t m e.state)) d) → FailsToBegin s tag m e r
-fails-so s g ots tree m seat tag e d r w h at left came =
+fails-so s g kinds m seat tag e d r w h at left came =
     let kept : Stored = (first_call s m e.state).node.stored in
-    let came_so = comes_failed tag s.indexes _ r (put_passes e) (after_put kept e) (stopped_in_put kept e) (calls-are s g ots tree m seat tag e d (record { disk = r; failed = true }) w at came) (put-first s g ots tree m tag e d w h left) in
+    let came_so = comes_failed tag s.indexes _ r (put_passes e) (after_put kept e) (stopped_in_put kept e) (calls-are s g kinds m seat tag e d (record { disk = r; failed = true }) w at came) (put-first s g kinds m tag e d w h left) in
     record { left = test-left e.state.next s.indexes left; stops = came_so.0; disk = came_so.1 }
 
 -- What the start of a node comes to, where memory isn't refused and the key isn't used up.
@@ -105,11 +104,11 @@ ComesTo s tag m e d events (Ok v) = Begins s tag m e d events v
 ComesTo s tag m e d events (Err faults.StoreFault) = FailsToBegin s tag m e d
 ComesTo s tag m e d events (Err other) = Unit {0}
 
-pub begins-by : (s : Setting) (g other : Group) (ots : OtsKind) (tree : TreeKind) (m me : ℕ) (tag seed : List ℕ) (own : Key) (records : List Record) (e : Disk) (d r : DiskState) (signer : SignerState) (x : node.Setting) (before after : List journal.Event) (result : Result Kept NodeFault)
-    → IsWorld s g ots tree → HoldsDisk tag s.indexes d e → seed ≡ s.nonces m e.state.next → records ≡ certificates s → before ≡ [] → other ≡ g → me ≡ m → signer.state ≡ e.state → signer.seat ≡ seat_of tag e → index_count signer.key ≡ s.indexes → setting_of s m ≡ x
+pub begins-by : (s : Setting) (g other : Group) (kinds : Kinds) (m me : ℕ) (tag seed : List ℕ) (own : Key) (records : List Record) (e : Disk) (d r : DiskState) (signer : SignerState) (x : node.Setting) (before after : List journal.Event) (result : Result Kept NodeFault)
+    → IsWorld s g kinds → HoldsDisk tag s.indexes d e → seed ≡ s.nonces m e.state.next → records ≡ certificates s → before ≡ [] → other ≡ g → me ≡ m → signer.state ≡ e.state → signer.seat ≡ seat_of tag e → index_count signer.key ≡ s.indexes → setting_of s m ≡ x
     → IfOk result (λ v. (t : node.Setting) → t ≡ x → Starts t seed records signer.state v before after) → IfOk result (λ v. (t : node.Setting) → t ≡ x → IsVouchable t own records signer.state) → IfOk result (λ v. v.ended ≡ false) → IfOk result (λ v. v.signer.closed ≡ false)
-    → IfOk result (λ v. v.signer.seat ≡ next_seat signer.seat (kept_first other.t me signer.state)) → tag ≡ tag_of s m → IfErr result (λ fault. MayRefuse signer fault) → PutsFirst (kept_first other.t me signer.state) signer.seat (Some d) (Some r) result → ComesTo s tag m e r after result
-begins-by s g other ots tree m me tag seed own records e d r signer x before after (Ok v) w h seeded certified none group_is me_is state seat leaves is starts vouched going free behind mark cause puts =
+    → IfOk result (λ v. v.signer.seat ≡ next_seat signer.seat (kept_first other.t me signer.state)) → IfErr result (λ fault. MayRefuse signer fault) → PutsFirst (kept_first other.t me signer.state) signer.seat (Some d) (Some r) result → ComesTo s tag m e r after result
+begins-by s g other kinds m me tag seed own records e d r signer x before after (Ok v) w h seeded certified none group_is me_is state seat leaves is starts vouched going free behind cause puts =
     let started : Starts (setting_of s m) seed records e.state v [] after =
     subst (λ (es : List journal.Event). Starts (setting_of s m) seed records e.state v es after) none (subst (λ (k : Stored). Starts (setting_of s m) seed records k v before after) state (starts (setting_of s m) is)) in
     let left : e.state.next < s.indexes = subst (λ (k : Stored). k.next < s.indexes) state (vouched (setting_of s m) is).left in
@@ -119,16 +118,16 @@ begins-by s g other ots tree m me tag seed own records e d r signer x before aft
     let place : v.signer.seat ≡ next_seat signer.seat (kept_first g.t m e.state) =
     behind ∙ ap (λ (y : Group). next_seat signer.seat (kept_first y.t me signer.state)) group_is ∙ ap (λ (y : ℕ). next_seat signer.seat (kept_first g.t y signer.state)) me_is
     ∙ ap (λ (y : Stored). next_seat signer.seat (kept_first g.t m y)) state in
-    begins-so s g ots tree m signer.seat tag seed records e d r v after w h seeded certified seat started left came going free place mark
-begins-by s g other ots tree m me tag seed own records e d r signer x before after (Err faults.StoreFault) w h seeded certified none group_is me_is state seat leaves is starts vouched going free behind mark cause puts =
+    begins-so s g kinds m signer.seat tag seed records e d r v after w h seeded certified seat started left came going free place
+begins-by s g other kinds m me tag seed own records e d r signer x before after (Err faults.StoreFault) w h seeded certified none group_is me_is state seat leaves is starts vouched going free behind cause puts =
     let left : e.state.next < s.indexes = subst (λ (n : ℕ). e.state.next < n) leaves (subst (λ (k : Stored). k.next < index_count signer.key) state cause) in
     let came : Some (record { disk = r; failed = true }) ≡ Some (runs (put_calls signer.seat (kept_first g.t m e.state)) d) =
     puts ∙ ap (λ (y : Group). Some (runs (put_calls signer.seat (kept_first y.t me signer.state)) d)) group_is ∙ ap (λ (y : ℕ). Some (runs (put_calls signer.seat (kept_first g.t y signer.state)) d)) me_is
     ∙ ap (λ (y : Stored). Some (runs (put_calls signer.seat (kept_first g.t m y)) d)) state in
-    fails-so s g ots tree m signer.seat tag e d r w h seat left came
-begins-by s g other ots tree m me tag seed own records e d r signer x before after (Err faults.OutOfMemory) w h seeded certified none group_is me_is state seat leaves is starts vouched going free behind mark cause puts = tt
-begins-by s g other ots tree m me tag seed own records e d r signer x before after (Err (faults.Exhausted next)) w h seeded certified none group_is me_is state seat leaves is starts vouched going free behind mark cause puts = tt
-begins-by s g other ots tree m me tag seed own records e d r signer x before after (Err faults.Ended) w h seeded certified none group_is me_is state seat leaves is starts vouched going free behind mark cause puts = tt
+    fails-so s g kinds m signer.seat tag e d r w h seat left came
+begins-by s g other kinds m me tag seed own records e d r signer x before after (Err faults.OutOfMemory) w h seeded certified none group_is me_is state seat leaves is starts vouched going free behind cause puts = tt
+begins-by s g other kinds m me tag seed own records e d r signer x before after (Err (faults.Exhausted next)) w h seeded certified none group_is me_is state seat leaves is starts vouched going free behind cause puts = tt
+begins-by s g other kinds m me tag seed own records e d r signer x before after (Err faults.Ended) w h seeded certified none group_is me_is state seat leaves is starts vouched going free behind cause puts = tt
 
 -- What is answered then.
 pub answer-is : (s : Setting) (tag : List ℕ) (m : ℕ) (e : Disk) (d : DiskState) (events : List journal.Event) (started : Result Kept NodeFault) (answer : Result (Option Kept) NoMemory) → ComesTo s tag m e d events started → IsStart started answer → BeginsNode s tag m e d events answer
@@ -172,9 +171,9 @@ idle-lives past None is = omega (arith, length-append past [])
 idle-lives past (Some life) is = cc
 
 -- A life began at the place.
-pub begun-at : (s : Setting) (ots : OtsKind) (tree : TreeKind) (place : Host) (spent : List Spent) (x : HostState) (d : DiskState) (v : Kept) (events : List journal.Event) → HoldsHost s ots tree place spent x → place.current ≡ None
-    → Begins s x.tag x.member place.disk d events v → BeginsAt s ots tree place spent (record x { key = None; disk = d; lives = x.lives + 1; node = Some v; signed = x.signed ++ bodies_in events }) (x.lives + 1) events
-begun-at s ots tree place spent x d v events h idle b =
+pub begun-at : (s : Setting) (kinds : Kinds) (place : Host) (spent : List Spent) (x : HostState) (d : DiskState) (v : Kept) (events : List journal.Event) → HoldsHost s kinds place spent x → place.current ≡ None
+    → Begins s x.tag x.member place.disk d events v → BeginsAt s kinds place spent (record x { key = None; disk = d; lives = x.lives + 1; node = Some v; signed = x.signed ++ bodies_in events }) (x.lives + 1) events
+begun-at s kinds place spent x d v events h idle b =
     let count : x.lives ≡ length place.past = h.lives ∙ idle-lives place.past place.current idle in
     let call : Call = first_call s x.member place.disk.state in
     record {
@@ -184,6 +183,7 @@ begun-at s ots tree place spent x d v events h idle b =
       told = b.told;
       sent = b.sent;
       holds = record {
+        kinds_are = h.kinds_are;
         public = h.public;
         key = tt;
         tag = h.tag;
@@ -194,50 +194,52 @@ begun-at s ots tree place spent x d v events h idle b =
       };
     }
 
-idle-current : (s : Setting) (e other : Disk) (m : ℕ) (node : Option Kept) (current : Option Life) → current ≡ None → HoldsCurrent s e m node current → HoldsCurrent s other m node current
-idle-current s e other m None None is h = tt
-idle-current s e other m (Some v) None is h = absurd h
-idle-current s e other m kept (Some life) is h = cc
+idle-current : (s : Setting) (tag : List ℕ) (e other : Disk) (m : ℕ) (node : Option Kept) (current : Option Life) → current ≡ None → HoldsCurrent s tag e m node current → HoldsCurrent s tag other m node current
+idle-current s tag e other m None None is h = tt
+idle-current s tag e other m (Some v) None is h = absurd h
+idle-current s tag e other m kept (Some life) is h = cc
 
 -- The place of a node that doesn't run, with another disk.
-pub with-disk : (s : Setting) (ots : OtsKind) (tree : TreeKind) (place : Host) (spent : List Spent) (x : HostState) (d : DiskState) (e : Disk) → HoldsHost s ots tree place spent x → place.current ≡ None → HoldsDisk x.tag s.indexes d e
-    → HoldsHost s ots tree (with_disk place e) spent (record x { disk = d })
-with-disk s ots tree place spent x d e h idle disk = record {
+pub with-disk : (s : Setting) (kinds : Kinds) (place : Host) (spent : List Spent) (x : HostState) (d : DiskState) (e : Disk) → HoldsHost s kinds place spent x → place.current ≡ None → HoldsDisk x.tag s.indexes d e
+    → HoldsHost s kinds (with_disk place e) spent (record x { disk = d })
+with-disk s kinds place spent x d e h idle disk = record {
+  kinds_are = h.kinds_are;
   public = h.public;
   key = h.key;
   tag = h.tag;
   disk = disk;
   lives = h.lives;
-  current = idle-current s place.disk e x.member x.node place.current idle h.current;
+  current = idle-current s x.tag place.disk e x.member x.node place.current idle h.current;
   signed = h.signed;
 }
 
-none-left : (s : Setting) (e : Disk) (m : ℕ) (current : Option Life) → current ≡ None → HoldsCurrent s e m None current
-none-left s e m None is = tt
-none-left s e m (Some life) is = cc
+none-left : (s : Setting) (tag : List ℕ) (e : Disk) (m : ℕ) (current : Option Life) → current ≡ None → HoldsCurrent s tag e m None current
+none-left s tag e m None is = tt
+none-left s tag e m (Some life) is = cc
 
 -- The disk stopped in the put of the first note.
-pub stopped-at : (s : Setting) (ots : OtsKind) (tree : TreeKind) (place : Host) (spent : List Spent) (x : HostState) (d : DiskState) → HoldsHost s ots tree place spent x → place.current ≡ None → FailsToBegin s x.tag x.member place.disk d
-    → StopsAt s ots tree place spent (record x { key = None; node = None; disk = crashed 0 d })
-stopped-at s ots tree place spent x d h idle f = record {
+pub stopped-at : (s : Setting) (kinds : Kinds) (place : Host) (spent : List Spent) (x : HostState) (d : DiskState) → HoldsHost s kinds place spent x → place.current ≡ None → FailsToBegin s x.tag x.member place.disk d
+    → StopsAt s kinds place spent (record x { key = None; node = None; disk = crashed 0 d })
+stopped-at s kinds place spent x d h idle f = record {
   left = f.left;
   stops = f.stops;
   holds = record {
+    kinds_are = h.kinds_are;
     public = h.public;
     key = tt;
     tag = h.tag;
     disk = f.disk;
     lives = h.lives;
-    current = none-left s (stopped_in_put (first_call s x.member place.disk.state).node.stored place.disk) x.member place.current idle;
+    current = none-left s x.tag (stopped_in_put (first_call s x.member place.disk.state).node.stored place.disk) x.member place.current idle;
     signed = h.signed;
   };
 }
 
 -- ---- the whole start
 
-pub starts-behind : (s : Setting) (ots : OtsKind) (tree : TreeKind) (place : Host) (spent : List Spent) (new : HostState) (result : Result Started NoMemory) → lets_pass place.disk.armed (opening_calls place.disk) ≡ true
-    → BeginsLife s ots tree (opened_place place) spent new result → StartsNode s ots tree place spent new result
-starts-behind s ots tree place spent new (Ok (starts.Began life events)) passes h = (passes, h)
-starts-behind s ots tree place spent new (Ok starts.DiskStopped) passes h = inr (passes, h)
-starts-behind s ots tree place spent new (Ok (starts.UsedUp next)) passes h = absurd h
-starts-behind s ots tree place spent new (Err refused) passes h = tt
+pub starts-behind : (s : Setting) (kinds : Kinds) (place : Host) (spent : List Spent) (new : HostState) (result : Result Started NoMemory) → lets_pass place.disk.armed (opening_calls place.disk) ≡ true
+    → BeginsLife s kinds (opened_place place) spent new result → StartsNode s kinds place spent new result
+starts-behind s kinds place spent new (Ok (starts.Began life events)) passes h = (passes, h)
+starts-behind s kinds place spent new (Ok starts.DiskStopped) passes h = inr (passes, h)
+starts-behind s kinds place spent new (Ok (starts.UsedUp next)) passes h = absurd h
+starts-behind s kinds place spent new (Err refused) passes h = tt

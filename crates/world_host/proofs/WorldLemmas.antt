@@ -8,122 +8,131 @@ use Rattle.lms_ots.specs.declared.OtsKind.{OtsKind}
 use Rattle.lms_tree.specs.declared.TreeKind.{TreeKind}
 use Rattle.lms_tree.specs.declared.key.PublicKey.{PublicKey}
 use Rattle.lms_tree.specs.declared.secret.Secret.{Secret}
-use Rattle.lms_tree.specs.Kinds.{leaf_count}
-use Rattle.lms_tree.specs.Leaves.{index_count}
 use Rattle.lms_tree.specs.Lms.{public_of}
+use Rattle.records.specs.declared.keys.Key.{Key}
 use Rattle.records.specs.declared.keys.Key.TheVariants as keys
-use Rattle.secrets.specs.Secrets.{key_from, world_secret}
+use Rattle.secrets.specs.Secrets.{key_from, key_id, key_seed, world_secret}
+use Rattle.sign_keys.specs.declared.key.SignKey.{SignKey}
+use Rattle.sign_keys.specs.declared.kinds.Kinds.{Kinds}
+use Rattle.sign_keys.specs.Keys.{IsNew, KeySecret, index_count, key_of, public_key, secret_of}
+use Rattle.sign_keys.proofs.Counts.{count_small}
 use Rattle.signer.specs.Lives.{Spent}
-use Rattle.signer.proofs.StepLemmas.{leaf_count_small}
 use Rattle.node_core.specs.Playing as node
 use Rattle.world_rules.specs.Settings.{Setting, setting_of}
-use Rattle.world_rules.specs.Keys.{owner_key, setting_for}
+use Rattle.world_rules.specs.Keys.{indexes_by, indexes_of, owner_key, owner_secret, setting_for}
 use Rattle.world_rules.specs.Worlds.{Host}
-use Rattle.world_host.specs.Holding.{HoldsHost, IsWorld, tag_of, tag_under}
-use Rattle.world_host.specs.Hosts.{HostState}
+use Rattle.world_host.specs.Holding.{HoldsHost, IsWorld}
+use Rattle.world_host.specs.Hosts.{HostState, IsUntaken}
 
-pub group-is : (s : Setting) (g : Group) (ots : OtsKind) (tree : TreeKind) → IsWorld s g ots tree → s.group ≡ g
+pub group-is : (s : Setting) (g : Group) (kinds : Kinds) → IsWorld s g kinds → s.group ≡ g
 unfolding setting_for
-group-is s g ots tree w = ap (λ (x : Setting). x.group) w.made
+group-is s g kinds w = ap (λ (x : Setting). x.group) w.made
 
-pub few-rings : (s : Setting) (g : Group) (ots : OtsKind) (tree : TreeKind) → IsWorld s g ots tree → s.group.t ≤ MAX_TOLERANCE
-few-rings s g ots tree w = subst (λ (x : Group). x.t ≤ MAX_TOLERANCE) (sym (group-is s g ots tree w)) w.few
+pub few-rings : (s : Setting) (g : Group) (kinds : Kinds) → IsWorld s g kinds → s.group.t ≤ MAX_TOLERANCE
+few-rings s g kinds w = subst (λ (x : Group). x.t ≤ MAX_TOLERANCE) (sym (group-is s g kinds w)) w.few
 
-pub indexes-are : (s : Setting) (g : Group) (ots : OtsKind) (tree : TreeKind) → IsWorld s g ots tree → s.indexes ≡ leaf_count tree
+-- ---- how many indexes there are
+
+pub indexes-are : (s : Setting) (g : Group) (kinds : Kinds) → IsWorld s g kinds → s.indexes ≡ indexes_of kinds
 unfolding setting_for
-indexes-are s g ots tree w = ap (λ (x : Setting). x.indexes) w.made
+indexes-are s g kinds w = ap (λ (x : Setting). x.indexes) w.made
 
-pub few-indexes : (s : Setting) (g : Group) (ots : OtsKind) (tree : TreeKind) → IsWorld s g ots tree → s.indexes ≤ 32768
-few-indexes s g ots tree w = subst (λ (n : ℕ). n ≤ 32768) (sym (indexes-are s g ots tree w)) (leaf_count_small tree)
+indexes-by : (ots : OtsKind) (tree : TreeKind) (bottom : Option TreeKind) (id seed : List ℕ) → index_count (key_of ots tree bottom id seed) ≡ indexes_by tree bottom
+indexes-by ots tree None id seed = refl
+indexes-by ots tree (Some bottom) id seed = refl
 
-own-made : (g : Group) (ots : OtsKind) (tree : TreeKind) (s : Setting) (m : ℕ)
-    → setting_of (setting_for g ots tree s.correct s.liars) m ≡ node.setting_of g m (public_of (owner_key g ots tree None)) (owner_key g ots tree (Some m))
+-- A key of these kinds has as many as they say.
+pub own-indexes : (g : Group) (kinds : Kinds) (m : ℕ) → index_count (owner_key g kinds (Some m)) ≡ indexes_of kinds
+own-indexes g kinds m = indexes-by kinds.ots kinds.tree kinds.bottom (key_id (owner_secret g (Some m))) (key_seed (owner_secret g (Some m)))
+
+pub few-indexes : (s : Setting) (g : Group) (kinds : Kinds) → IsWorld s g kinds → s.indexes ≤ 32768
+few-indexes s g kinds w =
+    subst (λ (n : ℕ). n ≤ 32768) (own-indexes g kinds 0 ∙ sym (indexes-are s g kinds w))
+    (count_small kinds (key_id (owner_secret g (Some 0))) (key_seed (owner_secret g (Some 0))) w.profile)
+
+-- ---- what a node is opened with
+
+-- the authority's key has one level
+abbrev authority_secret : Group → Kinds → Secret
+authority_secret g kinds = record { tree = kinds.tree; ots = kinds.ots; id = key_id (owner_secret g None); seed = key_seed (owner_secret g None) }
+
+made-by : (g : Group) (ots : OtsKind) (tree : TreeKind) (bottom : Option TreeKind) (correct liars : List ℕ) (m : ℕ)
+    → let kinds : Kinds = record { ots = ots; tree = tree; bottom = bottom } in setting_of (setting_for g kinds correct liars) m ≡ node.setting_of g m (public_of (authority_secret g kinds)) (owner_key g kinds (Some m))
 unfolding setting_for node.setting_of
-own-made g ots tree s m = refl
+made-by g ots tree None correct liars m = refl
+made-by g ots tree (Some bottom) correct liars m = refl
+
+own-made : (g : Group) (kinds : Kinds) (s : Setting) (m : ℕ) → setting_of (setting_for g kinds s.correct s.liars) m ≡ node.setting_of g m (public_of (authority_secret g kinds)) (owner_key g kinds (Some m))
+own-made g kinds s m = made-by g kinds.ots kinds.tree kinds.bottom s.correct s.liars m
 
 lms-is : (x y : PublicKey) → keys.Lms x ≡ keys.Lms y → x ≡ y
 lms-is x y e = cc
 
-key-made : (g : Group) (ots : OtsKind) (tree : TreeKind) (s : Setting) (who : Option ℕ) → (setting_for g ots tree s.correct s.liars).key who ≡ keys.Lms (public_of (owner_key g ots tree who))
+key-made : (g : Group) (kinds : Kinds) (s : Setting) (who : Option ℕ) → (setting_for g kinds s.correct s.liars).key who ≡ public_key (owner_key g kinds who)
 unfolding setting_for
-key-made g ots tree s who = refl
+key-made g kinds s who = refl
 
 -- A node with its own key is opened with what the world has for it.
-pub own-setting : (s : Setting) (g : Group) (ots : OtsKind) (tree : TreeKind) (m : ℕ) (authority : PublicKey) → IsWorld s g ots tree → keys.Lms authority ≡ s.key None
-    → setting_of s m ≡ node.setting_of g m authority (owner_key g ots tree (Some m))
-own-setting s g ots tree m authority w is =
-    let same : public_of (owner_key g ots tree None) ≡ authority = sym (lms-is authority (public_of (owner_key g ots tree None)) (is ∙ ap (λ (x : Setting). x.key None) w.made ∙ key-made g ots tree s None)) in
-    ap (λ (x : Setting). setting_of x m) w.made ∙ own-made g ots tree s m ∙ ap (λ (a : PublicKey). node.setting_of g m a (owner_key g ots tree (Some m))) same
+pub own-setting : (s : Setting) (g : Group) (kinds : Kinds) (m : ℕ) (authority : PublicKey) → IsWorld s g kinds → keys.Lms authority ≡ s.key None
+    → setting_of s m ≡ node.setting_of g m authority (owner_key g kinds (Some m))
+own-setting s g kinds m authority w is =
+    let same : public_of (authority_secret g kinds) ≡ authority = sym (lms-is authority (public_of (authority_secret g kinds)) (is ∙ ap (λ (x : Setting). x.key None) w.made ∙ key-made g kinds s None)) in
+    ap (λ (x : Setting). setting_of x m) w.made ∙ own-made g kinds s m ∙ ap (λ (a : PublicKey). node.setting_of g m a (owner_key g kinds (Some m))) same
 
-pub own-public : (s : Setting) (g : Group) (ots : OtsKind) (tree : TreeKind) (m : ℕ) → IsWorld s g ots tree → s.key (Some m) ≡ keys.Lms (public_of (owner_key g ots tree (Some m)))
-own-public s g ots tree m w = ap (λ (x : Setting). x.key (Some m)) w.made ∙ key-made g ots tree s (Some m)
+pub own-public : (s : Setting) (g : Group) (kinds : Kinds) (m : ℕ) → IsWorld s g kinds → s.key (Some m) ≡ public_key (owner_key g kinds (Some m))
+own-public s g kinds m w = ap (λ (x : Setting). x.key (Some m)) w.made ∙ key-made g kinds s (Some m)
 
-own-ots : (g : Group) (ots : OtsKind) (tree : TreeKind) (m : ℕ) → (public_of (owner_key g ots tree (Some m))).ots ≡ ots
-unfolding public_of
-own-ots g ots tree m = refl
-
-pub own-tree : (g : Group) (ots : OtsKind) (tree : TreeKind) (m : ℕ) → (public_of (owner_key g ots tree (Some m))).tree ≡ tree
-unfolding public_of
-own-tree g ots tree m = refl
-
--- The mark of the store is that of the member's.
-pub tag-is : (s : Setting) (ots : OtsKind) (tree : TreeKind) (place : Host) (spent : List Spent) (x : HostState) → HoldsHost s ots tree place spent x → x.tag ≡ tag_of s x.member
-tag-is s ots tree place spent x h = h.tag ∙ ap (tag_under s.group) h.public
-
-kept-half : (s : Setting) (g : Group) (ots : OtsKind) (tree : TreeKind) (place : Host) (spent : List Spent) (x : HostState) → IsWorld s g ots tree → HoldsHost s ots tree place spent x → x.public ≡ public_of (owner_key g ots tree (Some x.member))
-kept-half s g ots tree place spent x w h = lms-is x.public _ (h.public ∙ own-public s g ots tree x.member w)
-
--- The public half has the kinds of the world's keys.
-pub ots-is : (s : Setting) (g : Group) (ots : OtsKind) (tree : TreeKind) (place : Host) (spent : List Spent) (x : HostState) → IsWorld s g ots tree → HoldsHost s ots tree place spent x → x.public.ots ≡ ots
-ots-is s g ots tree place spent x w h = ap (λ (k : PublicKey). k.ots) (kept-half s g ots tree place spent x w h) ∙ own-ots g ots tree x.member
-
-pub tree-is : (s : Setting) (g : Group) (ots : OtsKind) (tree : TreeKind) (place : Host) (spent : List Spent) (x : HostState) → IsWorld s g ots tree → HoldsHost s ots tree place spent x → x.public.tree ≡ tree
-tree-is s g ots tree place spent x w h = ap (λ (k : PublicKey). k.tree) (kept-half s g ots tree place spent x w h) ∙ own-tree g ots tree x.member
+-- ---- the key of a place
 
 -- The key that is kept is the member's.
-pub kept-key : (s : Setting) (g : Group) (ots : OtsKind) (tree : TreeKind) (place : Host) (spent : List Spent) (x : HostState) (k : Secret) → IsWorld s g ots tree → HoldsHost s ots tree place spent x → x.key ≡ Some k → k ≡ owner_key g ots tree (Some x.member)
-kept-key s g ots tree place spent x k w h is =
-    some-so x.key h.key is ∙ ap (λ (y : Group). owner_key y ots tree (Some x.member)) (group-is s g ots tree w)
+pub kept-key : (s : Setting) (g : Group) (kinds : Kinds) (place : Host) (spent : List Spent) (x : HostState) (k : SignKey) → IsWorld s g kinds → HoldsHost s kinds place spent x → x.key ≡ Some k → secret_of k ≡ owner_key g kinds (Some x.member)
+kept-key s g kinds place spent x k w h is =
+    some-so x.key h.key is ∙ ap (λ (y : Group). owner_key y kinds (Some x.member)) (group-is s g kinds w)
   where
-    some-so : (o : Option Secret) → IfSome o (λ y. y ≡ owner_key s.group ots tree (Some x.member)) → o ≡ Some k → k ≡ owner_key s.group ots tree (Some x.member)
+    some-so : (o : Option SignKey) → IfSome o (λ y. IsNew y (owner_key s.group kinds (Some x.member))) → o ≡ Some k → secret_of k ≡ owner_key s.group kinds (Some x.member)
     some-so None h is = cc
-    some-so (Some y) h is = let same : y ≡ k = cc in sym same ∙ h
+    some-so (Some y) h is = let same : y ≡ k = cc in ap secret_of (sym same) ∙ h.is
 
--- Its public half is the one that is kept.
-pub kept-public : (o : Option Secret) (public : PublicKey) (k : Secret) → IfSome o (λ y. public_of y ≡ public) → o ≡ Some k → public_of k ≡ public
-kept-public None public k h is = cc
-kept-public (Some y) public k h is = let same : y ≡ k = cc in subst (λ (z : Secret). public_of z ≡ public) same h
-
--- It has as many indexes as its public half says.
-pub kept-indexes : (o : Option Secret) (public : PublicKey) (k : Secret) → IfSome o (λ y. public_of y ≡ public) → o ≡ Some k → index_count k ≡ leaf_count public.tree
-unfolding public_of
-kept-indexes None public k h is = cc
-kept-indexes (Some y) public k h is = let same : y ≡ k = cc in ap (λ (p : PublicKey). leaf_count p.tree) (subst (λ (z : Secret). public_of z ≡ public) same h)
+-- What is said of the key that is kept.
+pub untaken : (kinds : Kinds) (public : Key) (o : Option SignKey) (k : SignKey) → IfSome o (IsUntaken kinds public) → o ≡ Some k → IsUntaken kinds public k
+untaken kinds public None k h is = cc
+untaken kinds public (Some y) k h is = let same : y ≡ k = cc in subst (IsUntaken kinds public) same h
 
 -- The key that is made again is the member's.
-pub made-key : (s : Setting) (g : Group) (ots : OtsKind) (tree : TreeKind) (place : Host) (spent : List Spent) (x : HostState) (r : Result Secret NoMemory) → IsWorld s g ots tree → HoldsHost s ots tree place spent x
-    → IfOk r (λ k. k ≡ key_from x.public.ots x.public.tree (world_secret g.tag x.member)) → IfOk r (λ k. k ≡ owner_key g ots tree (Some x.member))
-made-key s g ots tree place spent x (Err refused) w h made = tt
-made-key s g ots tree place spent x (Ok k) w h made =
-    made ∙ ap (λ (o : OtsKind). key_from o x.public.tree (world_secret g.tag x.member)) (ots-is s g ots tree place spent x w h)
-    ∙ ap (λ (t : TreeKind). key_from ots t (world_secret g.tag x.member)) (tree-is s g ots tree place spent x w h)
+pub made-key : (s : Setting) (g : Group) (kinds : Kinds) (place : Host) (spent : List Spent) (x : HostState) (r : Result SignKey NoMemory) → HoldsHost s kinds place spent x
+    → IfOk r (λ k. IsNew k (key_from x.kinds (world_secret g.tag x.member))) → IfOk r (λ k. secret_of k ≡ owner_key g kinds (Some x.member))
+made-key s g kinds place spent x (Err refused) h made = tt
+made-key s g kinds place spent x (Ok k) h made = made.is ∙ ap (λ (y : Kinds). key_from y (world_secret g.tag x.member)) h.kinds_are
+
+-- It is new.
+pub made-new : (secret : KeySecret) (r : Result SignKey NoMemory) → IfOk r (λ k. IsNew k secret) → IfOk r (λ k. IsNew k (secret_of k))
+made-new secret (Err refused) made = tt
+made-new secret (Ok k) made = record { is = refl; first = made.first; one = made.one; unmade = made.unmade }
+
+-- It has as many indexes as its kinds say.
+pub made-indexes : (g : Group) (kinds : Kinds) (m : ℕ) (r : Result SignKey NoMemory) → IfOk r (λ k. IsNew k (owner_key g kinds (Some m))) → IfOk r (λ k. index_count (secret_of k) ≡ indexes_of kinds)
+made-indexes g kinds m (Err refused) made = tt
+made-indexes g kinds m (Ok k) made = ap index_count made.is ∙ own-indexes g kinds m
 
 -- It has the public half that the member's key has.
-pub made-public : (g : Group) (ots : OtsKind) (tree : TreeKind) (public : PublicKey) (m : ℕ) (r : Result Secret NoMemory) → public ≡ public_of (owner_key g ots tree (Some m))
-    → IfOk r (λ k. k ≡ key_from public.ots public.tree (world_secret g.tag m)) → IfOk r (λ k. public_of k ≡ public)
-made-public g ots tree public m (Err refused) is made = tt
-made-public g ots tree public m (Ok k) is made =
-    let kind : public.ots ≡ ots = ap (λ (p : PublicKey). p.ots) is ∙ own-ots g ots tree m in
-    let height : public.tree ≡ tree = ap (λ (p : PublicKey). p.tree) is ∙ own-tree g ots tree m in
-    let own : k ≡ owner_key g ots tree (Some m) =
-    made ∙ ap (λ (o : OtsKind). key_from o public.tree (world_secret g.tag m)) kind ∙ ap (λ (t : TreeKind). key_from ots t (world_secret g.tag m)) height in
-    ap public_of own ∙ sym is
+pub made-public : (secret : KeySecret) (public : Key) (r : Result SignKey NoMemory) → public ≡ public_key secret → IfOk r (λ k. IsNew k secret) → IfOk r (λ k. public_key (secret_of k) ≡ public)
+made-public secret public (Err refused) is made = tt
+made-public secret public (Ok k) is made = ap public_key made.is ∙ sym is
+
+-- A key that was just made is one that no life has taken.
+pub made-untaken : (g : Group) (kinds : Kinds) (m : ℕ) (k : SignKey) (public : Key) → IsNew k (owner_key g kinds (Some m)) → public ≡ public_key (secret_of k) → IsUntaken kinds public k
+made-untaken g kinds m k public new is =
+    record {
+      fresh = record { is = refl; first = new.first; one = new.one; unmade = new.unmade };
+      indexes = ap index_count new.is ∙ own-indexes g kinds m;
+      half = sym is;
+    }
 
 -- A node's kit and key, as they are opened together.
-pub own-kit : (s : Setting) (g other : Group) (ots : OtsKind) (tree : TreeKind) (m me : ℕ) (authority : PublicKey) (key : Secret) → IsWorld s g ots tree → keys.Lms authority ≡ s.key None → other ≡ g → me ≡ m → key ≡ owner_key g ots tree (Some m)
+pub own-kit : (s : Setting) (g other : Group) (kinds : Kinds) (m me : ℕ) (authority : PublicKey) (key : KeySecret) → IsWorld s g kinds → keys.Lms authority ≡ s.key None → other ≡ g → me ≡ m → key ≡ owner_key g kinds (Some m)
     → setting_of s m ≡ node.setting_of other me authority key
-own-kit s g other ots tree m me authority key w is group_is me_is key_is =
-    own-setting s g ots tree m authority w is
-    ∙ ap (λ (x : Group). node.setting_of x m authority (owner_key g ots tree (Some m))) (sym group_is)
-    ∙ ap (λ (x : ℕ). node.setting_of other x authority (owner_key g ots tree (Some m))) (sym me_is)
-    ∙ ap (λ (k : Secret). node.setting_of other me authority k) (sym key_is)
+own-kit s g other kinds m me authority key w is group_is me_is key_is =
+    own-setting s g kinds m authority w is
+    ∙ ap (λ (x : Group). node.setting_of x m authority (owner_key g kinds (Some m))) (sym group_is)
+    ∙ ap (λ (x : ℕ). node.setting_of other x authority (owner_key g kinds (Some m))) (sym me_is)
+    ∙ ap (λ (k : KeySecret). node.setting_of other me authority k) (sym key_is)

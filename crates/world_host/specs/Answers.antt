@@ -1,10 +1,12 @@
 -- What calls and starts of a node answer, and how they leave its place.
 use Rattle.std.specs.Prelude.{◌≡◌, ℕ, ◌+◌, true, false, ◌==◌, ◌⊎◌, List, [], ◌∷◌, ◌++◌, Option, Some, None, Result, Ok, Err, filter_map, flat_map, is_err, length}
 use Rattle.fields.specs.declared.NoMemory.{NoMemory}
-use Rattle.lms_ots.specs.declared.OtsKind.{OtsKind}
-use Rattle.lms_tree.specs.declared.TreeKind.{TreeKind}
+use Rattle.sign_keys.specs.declared.kinds.Kinds.{Kinds}
 use Rattle.ports.specs.MemoryDisk.{DiskState}
 use Rattle.records.specs.declared.Body.{Body}
+use Rattle.records.specs.declared.fault.FormFault.{FormFault}
+use Rattle.datagram.specs.declared.Datagram.{Datagram}
+use Rattle.datagram.specs.Grammar.{GivesDatagram, read_of}
 use Rattle.epoch_store.specs.Calls.{StoreState}
 use Rattle.signer.specs.Lives.{Spent}
 use Rattle.journal.specs.declared.event.Event as journal
@@ -42,24 +44,28 @@ spent_in m events = filter_map (spent_if_by (Some m)) (signed_in m events)
 
 -- ---- calls
 
+-- What was read, or why nothing was, is of these bytes or those.
+abbrev pub IsRead : Result Datagram FormFault → Type 0
+IsRead heard = (bytes : List ℕ) × GivesDatagram (read_of bytes) heard
+
 -- The call of the node that runs, over its disk.
 abbrev pub call_on : Setting → ℕ → Input → Host → Life → OnDisk
 call_on s m i place life = called_on (setting_of s m) life.node i place.disk
 
 -- The call is the one of the rules, and leaves the place as they say.
-pub record Calls (s : Setting) (ots : OtsKind) (tree : TreeKind) (i : Input) (place : Host) (spent : List Spent) (life : Life) (new : HostState) (before after : List (ℕ × List ℕ)) (events : List journal.Event) : Type 0 where
+pub record Calls (s : Setting) (kinds : Kinds) (i : Input) (place : Host) (spent : List Spent) (life : Life) (new : HostState) (before after : List (ℕ × List ℕ)) (events : List journal.Event) : Type 0 where
   pub told : events ≡ (call_on s new.member i place life).call.told
   pub sent : after ≡ before ++ (call_on s new.member i place life).call.sent
-  pub holds : HoldsHost s ots tree (host_after place (with_input life i (call_on s new.member i place life).call.node) (call_on s new.member i place life)) (spent ++ spent_in new.member events) new
+  pub holds : HoldsHost s kinds (host_after place (with_input life i (call_on s new.member i place life).call.node) (call_on s new.member i place life)) (spent ++ spent_in new.member events) new
 
 -- Where no node runs, nothing is reported or sent, and nothing changes.
-abbrev pub CallsRunning : Setting → OtsKind → TreeKind → Input → Host → List Spent → Option Life → HostState → HostState → List (ℕ × List ℕ) → List (ℕ × List ℕ) → List journal.Event → Type 0
-CallsRunning s ots tree i place spent None old new before after events = (events ≡ []) × (after ≡ before) × (new ≡ old)
-CallsRunning s ots tree i place spent (Some life) old new before after events = Calls s ots tree i place spent life new before after events
+abbrev pub CallsRunning : Setting → Kinds → Input → Host → List Spent → Option Life → HostState → HostState → List (ℕ × List ℕ) → List (ℕ × List ℕ) → List journal.Event → Type 0
+CallsRunning s kinds i place spent None old new before after events = (events ≡ []) × (after ≡ before) × (new ≡ old)
+CallsRunning s kinds i place spent (Some life) old new before after events = Calls s kinds i place spent life new before after events
 
-abbrev pub CallsNode : Setting → OtsKind → TreeKind → Input → Host → List Spent → HostState → HostState → List (ℕ × List ℕ) → List (ℕ × List ℕ) → Result (List journal.Event) NoMemory → Type 0
-CallsNode s ots tree i place spent old new before after (Ok events) = CallsRunning s ots tree i place spent place.current old new before after events
-CallsNode s ots tree i place spent old new before after (Err refused) = Unit {0}
+abbrev pub CallsNode : Setting → Kinds → Input → Host → List Spent → HostState → HostState → List (ℕ × List ℕ) → List (ℕ × List ℕ) → Result (List journal.Event) NoMemory → Type 0
+CallsNode s kinds i place spent old new before after (Ok events) = CallsRunning s kinds i place spent place.current old new before after events
+CallsNode s kinds i place spent old new before after (Err refused) = Unit {0}
 
 -- How the place is left, by the answer of its node.
 abbrev pub Ends : HostState → Kept → HostState → Result (Unit {0}) NodeFault → Result (Unit {0}) NoMemory → Type 0
@@ -85,7 +91,7 @@ pub record Begins (s : Setting) (tag : List ℕ) (m : ℕ) (e : Disk) (d : DiskS
   pub left : (e.state.next == s.indexes) ≡ false
   pub passes : put_passes e ≡ true
   pub disk : HoldsDisk tag s.indexes d (after_put (first_call s m e.state).node.stored e)
-  pub life : HoldsLife s (after_put (first_call s m e.state).node.stored e) m v (first_life e.state (first_call s m e.state))
+  pub life : HoldsLife s tag (after_put (first_call s m e.state).node.stored e) m v (first_life e.state (first_call s m e.state))
   pub told : events ≡ (first_call s m e.state).told
   pub sent : (first_call s m e.state).sent ≡ []
 
@@ -117,41 +123,41 @@ abbrev pub begun_place : Host → Call → Host
 begun_place place call = record { disk = after_put call.node.stored place.disk; past = place.past; current = Some (first_life place.disk.state call) }
 
 -- A life began at a place whose store is open.
-pub record BeginsAt (s : Setting) (ots : OtsKind) (tree : TreeKind) (place : Host) (spent : List Spent) (new : HostState) (life : ℕ) (events : List journal.Event) : Type 0 where
+pub record BeginsAt (s : Setting) (kinds : Kinds) (place : Host) (spent : List Spent) (new : HostState) (life : ℕ) (events : List journal.Event) : Type 0 where
   pub left : (place.disk.state.next == s.indexes) ≡ false
   pub passes : put_passes place.disk ≡ true
   pub number : life ≡ length place.past + 1
   pub told : events ≡ (first_call s new.member place.disk.state).told
   pub sent : (first_call s new.member place.disk.state).sent ≡ []
-  pub holds : HoldsHost s ots tree (begun_place place (first_call s new.member place.disk.state)) (spent ++ spent_in new.member events) new
+  pub holds : HoldsHost s kinds (begun_place place (first_call s new.member place.disk.state)) (spent ++ spent_in new.member events) new
 
 -- The disk stopped in the put.
-pub record StopsAt (s : Setting) (ots : OtsKind) (tree : TreeKind) (place : Host) (spent : List Spent) (new : HostState) : Type 0 where
+pub record StopsAt (s : Setting) (kinds : Kinds) (place : Host) (spent : List Spent) (new : HostState) : Type 0 where
   pub left : (place.disk.state.next == s.indexes) ≡ false
   pub stops : put_passes place.disk ≡ false
-  pub holds : HoldsHost s ots tree (with_disk place (stopped_in_put (first_call s new.member place.disk.state).node.stored place.disk)) spent new
+  pub holds : HoldsHost s kinds (with_disk place (stopped_in_put (first_call s new.member place.disk.state).node.stored place.disk)) spent new
 
-abbrev pub BeginsLife : Setting → OtsKind → TreeKind → Host → List Spent → HostState → Result Started NoMemory → Type 0
-BeginsLife s ots tree place spent new (Ok (starts.Began life events)) = BeginsAt s ots tree place spent new life events
-BeginsLife s ots tree place spent new (Ok starts.DiskStopped) = StopsAt s ots tree place spent new
-BeginsLife s ots tree place spent new (Ok (starts.UsedUp next)) = ⊥
-BeginsLife s ots tree place spent new (Err refused) = Unit {0}
+abbrev pub BeginsLife : Setting → Kinds → Host → List Spent → HostState → Result Started NoMemory → Type 0
+BeginsLife s kinds place spent new (Ok (starts.Began life events)) = BeginsAt s kinds place spent new life events
+BeginsLife s kinds place spent new (Ok starts.DiskStopped) = StopsAt s kinds place spent new
+BeginsLife s kinds place spent new (Ok (starts.UsedUp next)) = ⊥
+BeginsLife s kinds place spent new (Err refused) = Unit {0}
 
 -- The disk stopped as its store was opened.
-pub record StopsOpening (s : Setting) (ots : OtsKind) (tree : TreeKind) (place : Host) (spent : List Spent) (new : HostState) : Type 0 where
+pub record StopsOpening (s : Setting) (kinds : Kinds) (place : Host) (spent : List Spent) (new : HostState) : Type 0 where
   pub stops : lets_pass place.disk.armed (opening_calls place.disk) ≡ false
-  pub holds : HoldsHost s ots tree (with_disk place (stopped place.disk)) spent new
+  pub holds : HoldsHost s kinds (with_disk place (stopped place.disk)) spent new
 
 -- The key is used up, as the open store says.
-pub record IsUsedUp (s : Setting) (ots : OtsKind) (tree : TreeKind) (place : Host) (spent : List Spent) (new : HostState) (next : ℕ) : Type 0 where
+pub record IsUsedUp (s : Setting) (kinds : Kinds) (place : Host) (spent : List Spent) (new : HostState) (next : ℕ) : Type 0 where
   pub first : next ≡ place.disk.state.next
   pub none_left : (place.disk.state.next == s.indexes) ≡ true
-  pub holds : HoldsHost s ots tree (opened_place place) spent new
+  pub holds : HoldsHost s kinds (opened_place place) spent new
 
 -- A start is the one of the rules, and leaves the place as they say.
-abbrev pub StartsNode : Setting → OtsKind → TreeKind → Host → List Spent → HostState → Result Started NoMemory → Type 0
-StartsNode s ots tree place spent new (Ok (starts.Began life events)) = (lets_pass place.disk.armed (opening_calls place.disk) ≡ true) × BeginsAt s ots tree (opened_place place) spent new life events
-StartsNode s ots tree place spent new (Ok starts.DiskStopped) =
-    StopsOpening s ots tree place spent new ⊎ ((lets_pass place.disk.armed (opening_calls place.disk) ≡ true) × StopsAt s ots tree (opened_place place) spent new)
-StartsNode s ots tree place spent new (Ok (starts.UsedUp next)) = (lets_pass place.disk.armed (opening_calls place.disk) ≡ true) × IsUsedUp s ots tree place spent new next
-StartsNode s ots tree place spent new (Err refused) = Unit {0}
+abbrev pub StartsNode : Setting → Kinds → Host → List Spent → HostState → Result Started NoMemory → Type 0
+StartsNode s kinds place spent new (Ok (starts.Began life events)) = (lets_pass place.disk.armed (opening_calls place.disk) ≡ true) × BeginsAt s kinds (opened_place place) spent new life events
+StartsNode s kinds place spent new (Ok starts.DiskStopped) =
+    StopsOpening s kinds place spent new ⊎ ((lets_pass place.disk.armed (opening_calls place.disk) ≡ true) × StopsAt s kinds (opened_place place) spent new)
+StartsNode s kinds place spent new (Ok (starts.UsedUp next)) = (lets_pass place.disk.armed (opening_calls place.disk) ≡ true) × IsUsedUp s kinds place spent new next
+StartsNode s kinds place spent new (Err refused) = Unit {0}

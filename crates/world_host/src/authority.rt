@@ -1,11 +1,12 @@
 //! The authority of a world, which certifies all its members as the world begins.
 
 ghost use Rattle.std.specs.Prelude.{◌≡◌, ◌++◌, ◌∷◌, [], All, map, IfOk, OnErr, OnOk};
-ghost use Rattle.lms_tree.specs.declared.key.PublicKey.{PublicKey as Public};
 ghost use Rattle.node_core.specs.Begins.{IsCheckedIn, IsKit};
 ghost use Rattle.records.specs.Signing.{IsChecked};
+ghost use Rattle.records.specs.declared.keys.Key.{Key as PublicHalf};
 ghost use Rattle.records.specs.declared.keys.Key.TheVariants as keys;
 ghost use Rattle.secrets.specs.Secrets.{nonce_seed as seed_of_life, world_secret as secret_in_world};
+ghost use Rattle.sign_keys.specs.declared.kinds.Kinds.{Kinds};
 ghost use Rattle.world_host.specs.Bodies.{is_among as is_one_of};
 ghost use Rattle.world_host.specs.Holding.{IsPlaceOf};
 
@@ -130,8 +131,8 @@ impl Authority {
         ensures seed { IfOk result
             (λ kit. kit.nonce_seed
             ≡ seed_of_life (secret_in_world self.now.group.tag me) next) }
-        ensures sound { (own : Public) → IsPlaceOf self.now me own
-            → IfOk result (λ kit. IsKit kit (keys.Lms own)) }
+        ensures sound { (kinds : Kinds) (own : PublicHalf) → IsPlaceOf self.now kinds me own
+            → IfOk result (λ kit. IsKit kit own) }
     {
         let secret = world_secret(&self.group.tag, me.get());
         let certificates = copies_of(alloc, &self.group, &Key::Lms(self.key), &self.certificates)?;

@@ -1,24 +1,37 @@
 //! Calls of the node that runs.
 
-ghost use Rattle.std.specs.Prelude.{◌≡◌, ◌++◌, IfErr, OnOk};
-ghost use Rattle.lms_ots.specs.declared.OtsKind.{OtsKind};
-ghost use Rattle.lms_tree.specs.declared.TreeKind.{TreeKind};
+ghost use Rattle.std.specs.Prelude.{◌≡◌, ℕ, ◌++◌, IfErr, IfOk, OnOk};
+ghost use Rattle.sign_keys.specs.declared.kinds.Kinds.{Kinds};
 ghost use Rattle.ff_ids.specs.declared.Group.{Group};
+ghost use Rattle.datagram.specs.Grammar.{GivesDatagram, read_of};
+ghost use Rattle.datagram.specs.Spelling.{IsWritable};
 ghost use Rattle.node_core.specs.Answers.{MayStop};
 ghost use Rattle.node_rules.specs.Lives as inputs;
 ghost use Rattle.world_rules.specs.Settings.{Setting};
 ghost use Rattle.world_rules.specs.Worlds.{Host as Place};
 ghost use Rattle.signer.specs.Lives.{Spent};
 ghost use Rattle.std.specs.Prelude.{List};
-ghost use Rattle.world_host.specs.Answers.{CallsNode, Ends, bodies_in, body_in};
+ghost use Rattle.world_host.specs.Answers.{CallsNode, Ends, IsRead, bodies_in, body_in};
 ghost use Rattle.world_host.specs.Hosts.{IsGoing};
 ghost use Rattle.world_host.specs.Holding.{HoldsHost, IsWorld};
 
 use crate::host::Host;
+use datagram::Datagram;
 use fields::NoMemory;
 use journal::{Event, What};
 use node_core::{Events, Node, NodeFault, Outbox};
+use records::{Body, FormFault};
 use std::alloc::Global;
+
+/// Adds the body that the event says was signed, if it says so.
+fn add_signed(signed: &mut Vec<Body>, what: &What) -> Result<(), NoMemory>
+    ensures { OnOk result (signed.new.items ≡ signed.old.items ++ body_in what.now) }
+{
+    if let What::Spent { body, .. } = what {
+        signed.extend_from_slice(&[*body])?;
+    }
+    Ok(())
+}
 
 impl Host {
     /// How a call of the node went, which is put back; but where the disk stopped in it, the life is over.
@@ -47,10 +60,7 @@ impl Host {
             (self.new ≡ record self.old { signed = self.old.signed ++ body_in what.now }) }
         ensures frame { self.new ≡ record self.old { signed = self.new.signed } }
     {
-        if let What::Spent { body, .. } = what {
-            self.signed.push(*body)?;
-        }
-        Ok(())
+        add_signed(&mut self.signed, what)
     }
 
     /// Keeps the bodies that the events say were signed.
@@ -65,26 +75,30 @@ impl Host {
         Ok(())
     }
 
-    /// Hands the bytes of a datagram to the node, if one runs: what it sends goes to `out`, and what it reports is given.
-    /// Where the disk stops in the call, the life is over. Once memory is refused, nothing is said of the place.
+    /// Hands what was read of the bytes of a datagram to the node, if one runs: what it sends goes to `out`, and what it
+    /// reports is given. Where the disk stops in the call, the life is over. Once memory is refused, nothing is said of
+    /// the place.
     pub fn deliver(
         &mut self,
         alloc: Global,
-        bytes: &[u8],
+        heard: Result<Datagram, FormFault>,
         out: &mut Outbox,
     ) -> Result<Events, NoMemory>
+        requires writable { IfOk heard (λ d. IsWritable d) }
+        requires read { IsRead heard }
         ensures member { self.new.member ≡ self.old.member }
-        ensures calls { (s : Setting) (g : Group) (ots : OtsKind) (tree : TreeKind) (place : Place)
-            (spent : List Spent) → IsWorld s g ots tree
-            → HoldsHost s ots tree place spent self.old
-            → CallsNode s ots tree (inputs.Delivers bytes.now) place spent self.old self.new out.old
+        ensures calls { (bytes : List ℕ) → GivesDatagram (read_of bytes) heard
+            → (s : Setting) (g : Group) (kinds : Kinds) (place : Place)
+            (spent : List Spent) → IsWorld s g kinds
+            → HoldsHost s kinds place spent self.old
+            → CallsNode s kinds (inputs.Delivers bytes) place spent self.old self.new out.old
             out.new result }
     {
         let mut events = Events::new(alloc);
         let Some(mut node) = self.node.take() else {
             return Ok(events);
         };
-        let called = node.deliver(alloc, &mut self.disk, bytes, out, &mut events);
+        let called = node.deliver_read(alloc, &mut self.disk, heard, out, &mut events);
         self.end_call(node, called)?;
         self.keep_bodies(events.as_slice())?;
         Ok(events)
@@ -94,10 +108,10 @@ impl Host {
     /// is refused then.
     pub fn tick(&mut self, alloc: Global, out: &mut Outbox) -> Result<Events, NoMemory>
         ensures member { self.new.member ≡ self.old.member }
-        ensures calls { (s : Setting) (g : Group) (ots : OtsKind) (tree : TreeKind) (place : Place)
-            (spent : List Spent) → IsWorld s g ots tree
-            → HoldsHost s ots tree place spent self.old
-            → CallsNode s ots tree inputs.Ticks place spent self.old self.new out.old out.new
+        ensures calls { (s : Setting) (g : Group) (kinds : Kinds) (place : Place)
+            (spent : List Spent) → IsWorld s g kinds
+            → HoldsHost s kinds place spent self.old
+            → CallsNode s kinds inputs.Ticks place spent self.old self.new out.old out.new
             result }
     {
         let mut events = Events::new(alloc);
@@ -116,10 +130,10 @@ impl Host {
     /// The node leaves, if one runs, as a delivery is answered.
     pub fn leave(&mut self, alloc: Global, out: &mut Outbox) -> Result<Events, NoMemory>
         ensures member { self.new.member ≡ self.old.member }
-        ensures calls { (s : Setting) (g : Group) (ots : OtsKind) (tree : TreeKind) (place : Place)
-            (spent : List Spent) → IsWorld s g ots tree
-            → HoldsHost s ots tree place spent self.old
-            → CallsNode s ots tree inputs.Leaves place spent self.old self.new out.old out.new
+        ensures calls { (s : Setting) (g : Group) (kinds : Kinds) (place : Place)
+            (spent : List Spent) → IsWorld s g kinds
+            → HoldsHost s kinds place spent self.old
+            → CallsNode s kinds inputs.Leaves place spent self.old self.new out.old out.new
             result }
     {
         let mut events = Events::new(alloc);

@@ -1,12 +1,12 @@
 //! What lasts of a node: its key, its disk, and what it has signed.
 
-ghost use Rattle.std.specs.Prelude.{◌≡◌, ◌≤◌, [], IfOk, IfSome, List, None, Some, false, filter_map, is_some};
+ghost use Rattle.std.specs.Prelude.{◌≡◌, ◌≤◌, [], IfOk, IfSome, List, None, Some, false, filter_map, is_some, true};
 ghost use Rattle.std.specs.Option.{option_map, option_map_or};
 ghost use Rattle.ff_ids.specs.declared.TheConstants.{MAX_TOLERANCE};
 ghost use Rattle.ff_ids.specs.Masks.{ring_count};
-ghost use Rattle.lms_ots.specs.declared.OtsKind.{OtsKind};
-ghost use Rattle.lms_tree.specs.declared.TreeKind.{TreeKind};
-ghost use Rattle.lms_tree.specs.Lms.{public_of};
+ghost use Rattle.sign_keys.specs.declared.kinds.Kinds.{Kinds as KeyKinds};
+ghost use Rattle.sign_keys.specs.Keys.{public_key};
+ghost use Rattle.sign_keys.specs.Kinds.{is_in_profile};
 ghost use Rattle.world_host.specs.Held.{crashed};
 ghost use Rattle.world_host.specs.DiskLaws.{IsNew};
 ghost use Rattle.world_host.specs.Bodies.{is_among as is_one_of};
@@ -18,17 +18,17 @@ ghost use Rattle.signer.specs.Lives.{Spent};
 ghost use Rattle.world_host.specs.Holding.{HoldsHost, IsWorld, made_place};
 ghost use Rattle.world_host.specs.Hosts.{HaveJoined};
 
-use crate::{is_among, newest_of};
+use crate::{index_count_of, is_among, key_of, newest_of};
 use epoch_store::{make, store_len};
 use ff_ids::{Epoch, Group, MemberId, all_rings};
 use fields::NoMemory;
-use lms_tree::{PublicKey, SecretKey};
 use membership::Membership;
 use node_core::Node;
 use node_rules::{own_note_is_kept, what_is_held_is_the_life};
 use ports::MemoryDisk;
-use records::Body;
+use records::{Body, Key};
 use secrets::store_tag;
+use sign_keys::{Kinds, SignKey};
 use std::alloc::Global;
 use std::marker::Model;
 
@@ -40,10 +40,12 @@ pub(crate) const FILE: &str = "store";
 #[derive(Drop)]
 pub struct Host {
     pub(crate) member: MemberId,
+    /// The kinds of its key.
+    pub(crate) kinds: Kinds,
     /// The public half of its key.
-    pub(crate) public: PublicKey,
+    pub(crate) public: Key,
     /// The key, until a life takes it.
-    pub(crate) key: Option<SecretKey>,
+    pub(crate) key: Option<SignKey>,
     /// The mark of its store.
     pub(crate) tag: [u8; 32],
     pub(crate) disk: MemoryDisk,
@@ -56,11 +58,11 @@ pub struct Host {
 }
 
 impl Model for Host {
-    ghost use Rattle.std.specs.Prelude.{◌≡◌, IfSome};
+    ghost use Rattle.std.specs.Prelude.{◌≡◌, IfSome, true};
     ghost use Rattle.std.specs.Coded.{codes};
     ghost use Rattle.std.specs.FinMap.{code};
-    ghost use Rattle.lms_tree.specs.Lms.{public_of};
-    ghost use Rattle.world_host.specs.Hosts.{HostState, IsGoing};
+    ghost use Rattle.sign_keys.specs.Kinds.{is_in_profile};
+    ghost use Rattle.world_host.specs.Hosts.{HostState, IsGoing, IsUntaken};
 
     ghost Value = { HostState };
 
@@ -68,6 +70,7 @@ impl Model for Host {
 
     ghost view = { λ x. record {
       member = x.member;
+      kinds = x.kinds;
       public = x.public;
       key = x.key;
       tag = x.tag;
@@ -77,7 +80,8 @@ impl Model for Host {
       signed = x.signed.items;
     } };
 
-    ghost invariant = { λ x. IfSome x.key (λ key. public_of key ≡ x.public)
+    ghost invariant = { λ x. (is_in_profile x.kinds ≡ true)
+        × IfSome x.key (IsUntaken x.kinds x.public)
         × IfSome x.node IsGoing };
 }
 
@@ -97,30 +101,33 @@ fn open_disk(alloc: Global, indexes: u32) -> Result<MemoryDisk, NoMemory>
 }
 
 impl Host {
-    /// The place of a member with this key, of which no leaf was handed out: its store is new and enables all rings, and
+    /// The place of a member of the group's world, with its key of these kinds: its store is new and enables all rings, and
     /// no life has begun.
     pub fn open(
         alloc: Global,
         group: &Group,
+        kinds: Kinds,
         member: MemberId,
-        key: SecretKey,
     ) -> Result<Host, NoMemory>
-        requires { group.now.t ≤ MAX_TOLERANCE }
+        requires profile { is_in_profile kinds ≡ true }
+        requires tolerance { group.now.t ≤ MAX_TOLERANCE }
         ensures member { IfOk result (λ host. host.member ≡ member) }
-        ensures public { IfOk result (λ host. host.public ≡ public_of key) }
+        ensures public { IfOk result
+            (λ host. host.public ≡ public_key (owner_key group.now kinds (Some member))) }
         ensures holds { IfOk result
-            (λ host. (s : Setting) (ots : OtsKind) (tree : TreeKind)
-            → IsWorld s group.now ots tree → key ≡ owner_key group.now ots tree (Some member)
-            → HoldsHost s ots tree (made_place s) [] host) }
+            (λ host. (s : Setting) → IsWorld s group.now kinds
+            → HoldsHost s kinds (made_place s) [] host) }
     {
+        let key = key_of(alloc, group, kinds, member.get())?;
         let public = key.public();
-        let tag = store_tag(group, &public);
-        let mut disk = open_disk(alloc, public.tree.leaf_count())?;
+        let tag = store_tag(group, &key);
+        let mut disk = open_disk(alloc, index_count_of(&kinds))?;
         if make(&mut disk, FILE, &tag, all_rings(group.t)).is_err() {
             unreachable!();
         }
         Ok(Host {
             member,
+            kinds,
             public,
             key: Some(key),
             tag,
@@ -139,7 +146,7 @@ impl Host {
     }
 
     /// The public half of its key.
-    pub fn public(&self) -> &PublicKey
+    pub fn public(&self) -> &Key
         ensures { result.now ≡ self.now.public }
     {
         &self.public
@@ -167,8 +174,8 @@ impl Host {
 
     /// Whether the node runs and has left: its own newest note is a leaving one.
     pub fn has_left(&self) -> bool
-        ensures { (s : Setting) (ots : OtsKind) (tree : TreeKind) (place : Place)
-            (spent : List Spent) → HoldsHost s ots tree place spent self.now
+        ensures { (s : Setting) (kinds : KeyKinds) (place : Place)
+            (spent : List Spent) → HoldsHost s kinds place spent self.now
             → result ≡ option_map_or (has_left_in s self.now.member) place.current false }
     {
         own_note_is_kept();

@@ -14,5 +14,5 @@ mod starting;
 pub use authority::Authority;
 pub use bodies::{is_among, is_same, newest_of};
 pub use host::Host;
-pub use keys::{AUTHORITY, Kinds, SigningKey, key_of};
+pub use keys::{AUTHORITY, SigningKey, index_count_of, key_of};
 pub use starting::Started;

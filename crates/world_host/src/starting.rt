@@ -1,30 +1,27 @@
 //! Lives that begin.
 
 ghost use Rattle.std.specs.Prelude.{◌≡◌, ◌<◌, ◌≤◌, ℕ, List, [], None, Some, IfErr, IfOk, IfSome, false};
-ghost use Rattle.lms_ots.specs.declared.OtsKind.{OtsKind};
-ghost use Rattle.lms_tree.specs.declared.TreeKind.{TreeKind};
-ghost use Rattle.lms_tree.specs.Kinds.{leaf_count};
-ghost use Rattle.lms_tree.specs.Leaves.{index_count};
-ghost use Rattle.lms_tree.specs.Lms.{public_of};
+ghost use Rattle.sign_keys.specs.declared.kinds.Kinds.{Kinds};
+ghost use Rattle.sign_keys.specs.Keys.{IsNew, index_count, public_key, secret_of};
 ghost use Rattle.signer.specs.Lives.{Spent};
 ghost use Rattle.node_core.specs.Answers.{MayStop};
 ghost use Rattle.world_rules.specs.Disks.{Disk, seat_of};
-ghost use Rattle.world_rules.specs.Keys.{owner_key};
+ghost use Rattle.world_rules.specs.Keys.{indexes_of, owner_key};
 ghost use Rattle.world_rules.specs.Settings.{Setting};
 ghost use Rattle.world_rules.specs.Worlds.{Host as Place};
 ghost use Rattle.world_host.specs.Held.{HoldsDisk};
 ghost use Rattle.world_host.specs.Answers.{BeginsLife, BeginsNode, IsStart, OpensStore, StartsNode};
 ghost use Rattle.world_host.specs.Hosts.{IsGoing};
-ghost use Rattle.world_host.specs.Holding.{Certifies, HoldsHost, IsPlaceOf, IsWorld, tag_of};
+ghost use Rattle.world_host.specs.Holding.{Certifies, HoldsHost, IsPlaceOf, IsWorld};
 
 use crate::host::{FILE, Host};
-use crate::{Authority, Kinds, key_of};
+use crate::{Authority, index_count_of, key_of};
 use epoch_store::{Store, StoreError};
 use ff_ids::{Group, MemberId};
 use fields::NoMemory;
-use lms_tree::SecretKey;
 use node_core::{Events, Node, NodeFault};
 use ports::MemoryDisk;
+use sign_keys::SignKey;
 use signer::Signer;
 use std::alloc::Global;
 
@@ -35,23 +32,6 @@ pub enum Started {
     Began { life: u64, events: Events },
     DiskStopped,
     UsedUp { next: u32 },
-}
-
-/// A signer with the key over its store.
-fn open_signer(group: Group, key: SecretKey, store: Store) -> Signer
-    requires runs { store.failed ≡ false }
-    requires within { store.state.next ≤ index_count key }
-    ensures { result ≡ record {
-      group = group;
-      key = key;
-      leaf = store.state.next;
-      state = store.state;
-      seat = store.seat;
-      closed = false;
-    } }
-{
-    let (tree, leaves) = key.split();
-    Signer::open(group, tree, leaves, store)
 }
 
 impl Host {
@@ -72,26 +52,24 @@ impl Host {
         }
     }
 
-    /// The key with no leaf handed out. It is made again where a life has taken it.
-    fn take_key(&mut self, alloc: Global, group: &Group) -> Result<SecretKey, NoMemory>
-        ensures key { (s : Setting) (ots : OtsKind) (tree : TreeKind) (place : Place)
-            (spent : List Spent) → IsWorld s group.now ots tree
-            → HoldsHost s ots tree place spent self.old
-            → IfOk result (λ key. key ≡ owner_key group.now ots tree (Some self.old.member)) }
-        ensures indexes { IfOk result (λ key. index_count key ≡ leaf_count self.old.public.tree) }
-        ensures own { (ots : OtsKind) (tree : TreeKind)
-            → self.old.public ≡ public_of (owner_key group.now ots tree (Some self.old.member))
-            → IfOk result (λ key. public_of key ≡ self.old.public) }
+    /// The key with no index handed out. It is made again where a life has taken it.
+    fn take_key(&mut self, alloc: Global, group: &Group) -> Result<SignKey, NoMemory>
+        ensures key { (s : Setting) (kinds : Kinds) (place : Place) (spent : List Spent)
+            → IsWorld s group.now kinds → HoldsHost s kinds place spent self.old
+            → IfOk result
+            (λ key. secret_of key ≡ owner_key group.now kinds (Some self.old.member)) }
+        ensures fresh { IfOk result (λ key. IsNew key (secret_of key)) }
+        ensures indexes { IfOk result
+            (λ key. index_count (secret_of key) ≡ indexes_of self.old.kinds) }
+        ensures own { self.old.public
+            ≡ public_key (owner_key group.now self.old.kinds (Some self.old.member))
+            → IfOk result (λ key. public_key (secret_of key) ≡ self.old.public) }
         ensures frame { self.new ≡ record self.old { key = None } }
     {
         if let Some(key) = self.key.take() {
             return Ok(key);
         }
-        let kinds = Kinds {
-            ots: self.public.ots,
-            tree: self.public.tree,
-        };
-        key_of(alloc, group, kinds, self.member.get())
+        key_of(alloc, group, self.kinds, self.member.get())
     }
 }
 
@@ -114,24 +92,26 @@ fn begin_node(
     alloc: Global,
     authority: &Authority,
     member: MemberId,
-    key: SecretKey,
+    key: SignKey,
     store: Store,
     disk: &mut MemoryDisk,
     events: &mut Events,
 ) -> Result<Option<Node>, NoMemory>
     requires runs { store.failed ≡ false }
-    requires left { store.state.next < index_count key }
-    requires place { IsPlaceOf authority.now member (public_of key) }
+    requires fresh { IsNew key (secret_of key) }
+    requires left { store.state.next < index_count (secret_of key) }
+    requires place { (kinds : Kinds)
+        × IsPlaceOf authority.now kinds member (public_key (secret_of key)) }
     ensures going { IfOk result (λ node. IfSome node IsGoing) }
-    ensures begins { (s : Setting) (ots : OtsKind) (tree : TreeKind) (tag : List ℕ) (e : Disk)
-        → IsWorld s authority.now.group ots tree → Certifies s authority.now
-        → key ≡ owner_key authority.now.group ots tree (Some member)
+    ensures begins { (s : Setting) (kinds : Kinds) (tag : List ℕ) (e : Disk)
+        → IsWorld s authority.now.group kinds → Certifies s authority.now
+        → secret_of key ≡ owner_key authority.now.group kinds (Some member)
         → store ≡ record { state = e.state; seat = seat_of tag e; failed = false }
-        → tag ≡ tag_of s member → HoldsDisk tag s.indexes disk.old e → events.old ≡ []
+        → HoldsDisk tag s.indexes disk.old e → events.old ≡ []
         → BeginsNode s tag member e disk.new events.new result }
 {
     let kit = authority.kit(alloc, member, store.state().next)?;
-    let signer = open_signer(*authority.group(), key, store);
+    let signer = Signer::open(*authority.group(), key, store);
     start_of(Node::start(alloc, kit, signer, disk, events))
 }
 
@@ -144,16 +124,16 @@ impl Host {
         store: Store,
     ) -> Result<Started, NoMemory>
         requires runs { store.failed ≡ false }
-        requires left { store.state.next < leaf_count self.old.public.tree }
-        requires place { IsPlaceOf authority.now self.old.member self.old.public }
+        requires left { store.state.next < indexes_of self.old.kinds }
+        requires place { IsPlaceOf authority.now self.old.kinds self.old.member self.old.public }
         ensures member { self.new.member ≡ self.old.member }
-        ensures begins { (s : Setting) (ots : OtsKind) (tree : TreeKind) (place : Place)
-            (spent : List Spent) → IsWorld s authority.now.group ots tree
+        ensures begins { (s : Setting) (kinds : Kinds) (place : Place)
+            (spent : List Spent) → IsWorld s authority.now.group kinds
             → Certifies s authority.now
-            → HoldsHost s ots tree place spent self.old → place.current ≡ None
+            → HoldsHost s kinds place spent self.old → place.current ≡ None
             → store ≡ record
             { state = place.disk.state; seat = seat_of self.old.tag place.disk; failed = false }
-            → BeginsLife s ots tree place spent self.new result }
+            → BeginsLife s kinds place spent self.new result }
     {
         let life = self.lives.checked_add(1).ok_or(NoMemory)?;
         let key = self.take_key(alloc, authority.group())?;
@@ -185,19 +165,19 @@ impl Host {
     /// and events are given. A stop of the disk in the middle, or a key that is used up, begins none. Once memory is refused,
     /// nothing is said of the place.
     pub fn start(&mut self, alloc: Global, authority: &Authority) -> Result<Started, NoMemory>
-        requires { IsPlaceOf authority.now self.old.member self.old.public }
+        requires { IsPlaceOf authority.now self.old.kinds self.old.member self.old.public }
         ensures member { self.new.member ≡ self.old.member }
-        ensures starts { (s : Setting) (ots : OtsKind) (tree : TreeKind) (place : Place)
-            (spent : List Spent) → IsWorld s authority.now.group ots tree
+        ensures starts { (s : Setting) (kinds : Kinds) (place : Place)
+            (spent : List Spent) → IsWorld s authority.now.group kinds
             → Certifies s authority.now
-            → HoldsHost s ots tree place spent self.old → place.current ≡ None
-            → StartsNode s ots tree place spent self.new result }
+            → HoldsHost s kinds place spent self.old → place.current ≡ None
+            → StartsNode s kinds place spent self.new result }
     {
         let Some(store) = self.open_store()? else {
             return Ok(Started::DiskStopped);
         };
         let next = store.state().next;
-        if next >= self.public.tree.leaf_count() {
+        if next >= index_count_of(&self.kinds) {
             return Ok(Started::UsedUp { next });
         }
         self.begin_life(alloc, authority, store)

@@ -18,7 +18,7 @@ use Rattle.ff_ids.specs.Faults.{Facts, facts_of, fault_under, accusation_fault_b
 use Rattle.ff_ids.proofs.FaultLemmas.{passed}
 use Rattle.life_laws.proofs.Lists.{In}
 use Rattle.records.specs.declared.keys.Key.{Key}
-use Rattle.records.specs.Keys.{key_bytes}
+use Rattle.records.specs.Keys.{written}
 use Rattle.records.specs.declared.CertBody.{CertBody}
 use Rattle.records.specs.declared.Body.{Body}
 use Rattle.records.specs.declared.Body.TheVariants.{Certificate, Note, Accusation}
@@ -98,7 +98,7 @@ certificate-ahead : (kept : Option CertBody) (c : CertBody) → is_ahead (certif
 certificate-ahead None c = refl
 certificate-ahead (Some kept) c = either _
   where
-    either : (b : Bool) → is_ahead (Some (cond b faults.Known (faults.OtherCertificate kept.port (key_bytes kept.key)))) ≡ false
+    either : (b : Bool) → is_ahead (Some (cond b faults.Known (faults.OtherCertificate kept.port (written kept.key)))) ≡ false
     either true = refl
     either false = refl
 

@@ -37,7 +37,7 @@ use Rattle.world_laws.proofs.Written.{started-sent}
 
 -- ---- the kit
 
-good-certified : (s : Setting) (m index : ℕ) (ms : List ℕ) → SignaturesVerify s → index + length ms ≤ s.indexes → AllByRecursion (IsCertifiedBy (setting_of s m) (s.key (Some m))) (map (record_of s) (certified_from s index ms))
+good-certified : (s : Setting) (m index : ℕ) (ms : List ℕ) → SignaturesVerify s → index + length ms ≤ s.authority_indexes → AllByRecursion (IsCertifiedBy (setting_of s m) (s.key (Some m))) (map (record_of s) (certified_from s index ms))
 good-certified s m index [] verify few = tt
 good-certified s m index (k ∷ ms) verify few = ((verify None index (Certificate (certificate s k)) (omega (arith, few)), own), good-certified s m (index + 1) ms verify (omega (arith, few)))
   where

@@ -24,7 +24,8 @@ use Rattle.schedule_world.specs.declared.text.WorldText.TheVariants as world
 use Rattle.schedule_world.specs.Rows.{has_node, is_body, is_ended, is_grouped, is_headed, is_roster, is_start, row_for}
 use Rattle.schedule_world.specs.Grammar.{InRange, IsWorld, Stands, after, behind, judge, opening}
 use Rattle.schedule_world.specs.Laws.{world-spelled}
-use Rattle.schedule_world.proofs.GrammarLemmas.{newcomer-in, world-in_range, world-stands}
+use Rattle.sign_keys.specs.Kinds.{is_in_profile}
+use Rattle.schedule_world.proofs.GrammarLemmas.{newcomer-in, kinds-fit, world-in_range, world-stands}
 use Rattle.world_rules.specs.Settings.{Setting, members}
 use Rattle.world_rules.specs.Keys.{setting_for}
 use Rattle.world_rules.specs.Worlds.{World, begun_world}
@@ -100,11 +101,12 @@ pub record HasGroup (r : Roster) : Type 0 where
   pub some : 1 ≤ r.group.t
   pub few : r.group.t ≤ MAX_TOLERANCE
 
--- Who is listed is among the names, and the nodes and the liars are apart.
+-- There are keys of the kinds. Who is listed is among the names, and the nodes and the liars are apart.
 pub record IsNamed (r : Roster) (names : List ℕ) : Type 0 where
   pub group : HasGroup r
   pub count : length r.correct + length r.liars ≤ length names
   pub few : length names ≤ 32
+  pub kinds : is_in_profile r.kinds ≡ true
   pub nodes : (m : ℕ) → In r.correct m → In names m
   pub liars : (m : ℕ) → In r.liars m → In names m
   pub numbered : (m : ℕ) → In r.correct m → m < MEMBERS
@@ -145,9 +147,11 @@ group-line : (form : WorldText) (r : Roster) (g : Group) → IsTrue (is_headed f
 group-line world.Headed r g stands range h = (record { nodes = h.nodes; liars = h.liars }, record { some = range.0.0; few = range.0.1 })
 group-line _ r g stands range h = absurd (false≢true stands)
 
-kinds-line : (form : WorldText) (r : Roster) (ots : OtsKind) (tree : TreeKind) → IsTrue (is_grouped form) → Fits form r → Fits (after form (lines.Kinds ots tree)) (record r { ots = ots; tree = tree })
-kinds-line (world.Grouped t) r ots tree stands h =
+kinds-line : (form : WorldText) (r : Roster) (ots : OtsKind) (tree : TreeKind) (bottom : Option TreeKind) → IsTrue (is_grouped form) → InRange form (lines.Kinds ots tree bottom) → Fits form r
+    → Fits (after form (lines.Kinds ots tree bottom)) (record r { kinds = record { ots = ots; tree = tree; bottom = bottom } })
+kinds-line (world.Grouped t) r ots tree bottom stands range h =
     record {
+      kinds = kinds-fit (world.Grouped t) ots tree bottom range;
       group = record { some = h.1.some; few = h.1.few };
       count = omega (arith, ap (λ (xs : List ℕ). length xs) h.0.nodes, ap (λ (xs : List ℕ). length xs) h.0.liars);
       few = omega arith;
@@ -156,7 +160,7 @@ kinds-line (world.Grouped t) r ots tree stands h =
       numbered = λ m i. absurd (subst (λ xs. In xs m) h.0.nodes i);
       apart = λ m i j. subst (λ xs. In xs m) h.0.nodes i;
     }
-kinds-line _ r ots tree stands h = absurd (false≢true stands)
+kinds-line _ r ots tree bottom stands range h = absurd (false≢true stands)
 
 node-line : (form : WorldText) (r : Roster) (m : ℕ) → IsTrue (is_roster form) → InRange form (lines.Node m) → Fits form r → Fits (after form (lines.Node m)) (record r { correct = r.correct ++ m ∷ [] })
 node-line (world.Roster t names node) r m stands range h =
@@ -165,6 +169,7 @@ node-line (world.Roster t names node) r m stands range h =
       group = record { some = h.group.some; few = h.group.few };
       count = omega (arith, h.count, length-append r.correct (m ∷ []), length-append names (m ∷ []));
       few = omega (arith, new.few, length-append names (m ∷ []));
+      kinds = h.kinds;
       nodes = λ k i. elim (last-of r.correct m k i) [ inl old ↦ In-append_left names (m ∷ []) k (h.nodes k old) | inr is ↦ In-append_right names (m ∷ []) k (inl is) ];
       liars = λ k i. In-append_left names (m ∷ []) k (h.liars k i);
       numbered = λ k i. elim (last-of r.correct m k i) [ inl old ↦ h.numbered k old | inr is ↦ omega (arith, is, new.range) ];
@@ -179,6 +184,7 @@ liar-line (world.Roster t names node) r m stands range h =
       group = record { some = h.group.some; few = h.group.few };
       count = omega (arith, h.count, length-append r.liars (m ∷ []), length-append names (m ∷ []));
       few = omega (arith, new.few, length-append names (m ∷ []));
+      kinds = h.kinds;
       nodes = λ k i. In-append_left names (m ∷ []) k (h.nodes k i);
       liars = λ k i. elim (last-of r.liars m k i) [ inl old ↦ In-append_left names (m ∷ []) k (h.liars k old) | inr is ↦ In-append_right names (m ∷ []) k (inl is) ];
       numbered = h.numbered;
@@ -193,10 +199,10 @@ has-indexes r names h =
     let all : List ℕ = r.correct ++ r.liars in
     let listed : length (filter (λ m. list_any (λ x. eqb x m) all) all_numbers) ≤ length all =
     subst (λ xs. length (filter (λ m. list_any (λ x. eqb x m) all) xs) ≤ length all) (sym all_length.1.are) (few-listed all 0 all_length.0) in
-    omega (arith, listed, length-append r.correct r.liars, h.count, h.few, many-leaves r.tree)
+    omega (arith, listed, length-append r.correct r.liars, h.count, h.few, many-leaves r.kinds.tree)
 
 begin-line : (form : WorldText) (r : Roster) → IsTrue (has_node form) → Fits form r → IsPlayed (setting_in r) (begun_world (setting_in r)) [] × HasIndexes (setting_in r)
-begin-line (world.Roster t names node) r stands h = (record { fits = setting-fits r names h; verify = keys-verify r.group r.ots r.tree r.correct r.liars; reached = opens_so }, has-indexes r names h)
+begin-line (world.Roster t names node) r stands h = (record { fits = setting-fits r names h; verify = keys-verify r.group r.kinds r.correct r.liars h.kinds; reached = opens_so }, has-indexes r names h)
 begin-line _ r stands h = absurd (false≢true stands)
 
 no-body : (form : WorldText) (r : Roster) → IsTrue (is_body form) → Fits form r → ⊥
@@ -210,7 +216,7 @@ IsAt form (Plays s w) told = IsPlayed s w told × HasIndexes s
 roster-line : (form : WorldText) (r : Roster) (l : WorldLine) → Stands form l → InRange form l → Fits form r → IsAt (after form l) (listed setting_in r l) []
 roster-line form r lines.Header stands range h = (header-line form r stands h, refl)
 roster-line form r (lines.Group g) stands range h = (group-line form r g stands range h, refl)
-roster-line form r (lines.Kinds ots tree) stands range h = (kinds-line form r ots tree stands h, refl)
+roster-line form r (lines.Kinds ots tree bottom) stands range h = (kinds-line form r ots tree bottom stands range h, refl)
 roster-line form r (lines.Node m) stands range h = (node-line form r m stands range h, refl)
 roster-line form r (lines.Liar m) stands range h = (liar-line form r m stands range h, refl)
 roster-line form r lines.Begin stands range h = begin-line form r stands h

@@ -8,16 +8,17 @@ use Rattle.ff_ids.specs.declared.Fault.TheVariants as faults
 use Rattle.ff_ids.specs.Steps.{Accuses}
 use Rattle.ff_ids.specs.Notes.{is_leaving, newest}
 use Rattle.ff_ids.specs.Lives.{opening, state_at, IsRemovedAt, LeavesBy, RestsOn}
-use Rattle.lms_ots.specs.declared.OtsKind.{OtsKind}
-use Rattle.lms_tree.specs.declared.TreeKind.{TreeKind}
+use Rattle.sign_keys.specs.declared.kinds.Kinds.{Kinds}
+use Rattle.sign_keys.specs.Kinds.{is_in_profile}
 use Rattle.records.specs.declared.Body.{Body}
 use Rattle.records.specs.declared.Body.TheVariants.{Accusation, Note}
 use Rattle.journal.specs.declared.event.What as whats
 use Rattle.journal.specs.declared.event.What.TheVariants as happened
 use Rattle.node_rules.specs.Nodes.{public_key_of}
 use Rattle.node_rules.specs.Vouching.{IsVouchedFor}
-use Rattle.world_rules.specs.Settings.{Owner, Setting, is_node, record_of, setting_of}
-use Rattle.world_rules.specs.Keys.{setting_for}
+use Rattle.world_rules.specs.Settings.{Owner, Setting, indexes_for, is_node, record_of, setting_of}
+use Rattle.sign_keys.specs.Keys.{TopSignsTree}
+use Rattle.world_rules.specs.Keys.{owner_key, setting_for}
 use Rattle.world_rules.specs.Worlds.{Life, World, lives_of}
 use Rattle.world_rules.specs.Steps.{NodeEvent}
 use Rattle.world_rules.specs.Laws.{IsSetting, Reached}
@@ -114,11 +115,18 @@ AcceptedAccusationsWereSigned = (s : Setting) (w : World) (told : List NodeEvent
 
 -- What is signed with a key at one of its indexes verifies under it.
 abbrev pub SignaturesVerify : Setting → Type 0
-SignaturesVerify s = (who : Owner) (index : ℕ) (body : Body) → index < s.indexes → s.verifies (s.key who) (record_of s (record { who = who; index = index; body = body })) ≡ true
+SignaturesVerify s = (who : Owner) (index : ℕ) (body : Body) → index < indexes_for s who → s.verifies (s.key who) (record_of s (record { who = who; index = index; body = body })) ≡ true
 
--- That holds of the keys that a world is opened with.
+-- That holds of the keys that a world is opened with, whatever their kinds, of which there are keys.
 abbrev pub KeysVerify : Type 0
-KeysVerify = (g : Group) (ots : OtsKind) (tree : TreeKind) (correct liars : List ℕ) → SignaturesVerify (setting_for g ots tree correct liars)
+KeysVerify = (g : Group) (kinds : Kinds) (correct liars : List ℕ) → is_in_profile kinds ≡ true → SignaturesVerify (setting_for g kinds correct liars)
+
+-- In each signature with a key of two levels the top leaf of its index signs the public key of its own bottom tree, which stands
+-- behind it: so it signs one message in all lives of the key, whatever they sign.
+abbrev pub TopLeavesSignOnce : Type 0
+TopLeavesSignOnce = (g : Group) (kinds : Kinds) (correct liars : List ℕ) (who : Owner) (index : ℕ) (body : Body)
+    → index < indexes_for (setting_for g kinds correct liars) who
+    → TopSignsTree (owner_key g kinds who) index (record_of (setting_for g kinds correct liars) (record { who = who; index = index; body = body })).signature
 
 -- The removal of the member at this place of the life rests on one accusation, of which all of this is said. The record of which
 -- it has come verifies under the key of the accuser's certificate, as the node keeps it. If the member is a node, it had itself

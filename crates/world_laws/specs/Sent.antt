@@ -41,7 +41,7 @@ SendsAuthentic s w = AllByRecursion (λ d. IsOfAuthentic s d.1) w.sent
 
 -- The authority's key has an index for each certificate.
 abbrev pub HasIndexes : Setting → Type 0
-HasIndexes s = length (members s) ≤ s.indexes
+HasIndexes s = length (members s) ≤ s.authority_indexes
 
 abbrev pub SentRecordsVerify : Type 0
 SentRecordsVerify = (s : Setting) (w : World) (told : List NodeEvent) → IsSetting s → SignaturesVerify s → HasIndexes s → Reached s w told → SendsAuthentic s w

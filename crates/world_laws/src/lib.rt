@@ -4,7 +4,7 @@
 //! `command_line` cites them.
 #![tactic(auto)]
 
-ghost use Rattle.world_laws.specs.Laws.{RostersAreKept, OwnAheadNeverComes, TheRemovedHadSigned, NodesAccuseTheSilent, NodesLeaveAsCalled, AcceptedAccusationsWereSigned, KeysVerify, RemovalsAreVerified, ToldRemovalsAreVerified};
+ghost use Rattle.world_laws.specs.Laws.{RostersAreKept, OwnAheadNeverComes, TheRemovedHadSigned, NodesAccuseTheSilent, NodesLeaveAsCalled, AcceptedAccusationsWereSigned, KeysVerify, TopLeavesSignOnce, RemovalsAreVerified, ToldRemovalsAreVerified};
 ghost use Rattle.world_laws.specs.Telling.{AcceptedIsLived, AcceptedWasSignedFirst, AuthoritySpendsOnce, SendingIsTold, SpendingIsTold};
 ghost use Rattle.world_laws.specs.Flows.{FlowsGoOn, OnlySentIsHandedOver, OthersTakeNone};
 ghost use Rattle.world_laws.specs.Forged.{ForgedLinesHandItOver, ForgeriesAreFirst};
@@ -47,6 +47,11 @@ pub fn nodes_leave_as_called()
 /// What is signed at an index of a world's key verifies under that key.
 pub fn keys_verify()
     ensures { KeysVerify }
+{}
+
+/// Of keys of two levels each top leaf signs one message in all lives of the key: the public key of its own bottom tree.
+pub fn top_leaves_sign_once()
+    ensures { TopLeavesSignOnce }
 {}
 
 /// Each removal in a life of a node has for its cause a note of the member's, accepted there, by which it left; or it rests on

@@ -1,6 +1,6 @@
 -- What a line does to a roster that was read so far.
 use Rattle.std.proofs.Common.{◌≡◌, ◌⊎◌, ℕ, Bool, true, false, ◌||◌, eqb, List, [], ◌∷◌, ◌++◌, length, length-append, inl, inr, refl, ap, sym, ◌∙◌, subst, arith}
-use Rattle.std.specs.Prelude.{Result, Ok, Err, IsTrue, Contains}
+use Rattle.std.specs.Prelude.{Option, Result, Ok, Err, IsTrue, Contains}
 use Rattle.std.proofs.lemmas.Bool.{eqb-true, false≢true, false_from_ne_true, or_cases, or_left, or_right}
 use Rattle.std.proofs.lemmas.List.Folds.{list_any-append}
 use Rattle.life_laws.proofs.Lists.{In, Contains-from_In, some_passes}
@@ -14,7 +14,7 @@ use Rattle.schedule_world.specs.declared.text.WorldText.{WorldText}
 use Rattle.schedule_world.specs.declared.text.WorldText.TheVariants as form
 use Rattle.schedule_world.specs.Rows.{has_node, is_body, is_grouped, is_headed, is_roster, is_start, tolerance}
 use Rattle.schedule_world.specs.Grammar.{InRange, Stands, after, behind, judge}
-use Rattle.schedule_world.proofs.GrammarLemmas.{height-low, newcomer-in, world-in_range, world-stands}
+use Rattle.schedule_world.proofs.GrammarLemmas.{height-low, kinds-fit, newcomer-in, world-in_range, world-stands}
 use Rattle.world_rules.specs.Keys.{setting_for}
 use Rattle.world_rules.specs.Settings.{Setting}
 use Rattle.world_rules.specs.Forgeries.{Forgery}
@@ -102,14 +102,16 @@ group-line form.Headed r g stands range h = (
 )
 group-line _ r g stands range h = absurd (false≢true stands)
 
-kinds-line : (w : WorldText) (r : Roster) (ots : OtsKind) (tree : TreeKind) → IsTrue (is_grouped w) → InRange w (lines.Kinds ots tree) → IsRead w r → IsRead (after w (lines.Kinds ots tree)) (record r { ots = ots; tree = tree })
-kinds-line (form.Grouped t) r ots tree stands range h =
+kinds-line : (w : WorldText) (r : Roster) (ots : OtsKind) (tree : TreeKind) (bottom : Option TreeKind) → IsTrue (is_grouped w) → InRange w (lines.Kinds ots tree bottom) → IsRead w r
+    → IsRead (after w (lines.Kinds ots tree bottom)) (record r { kinds = record { ots = ots; tree = tree; bottom = bottom } })
+kinds-line (form.Grouped t) r ots tree bottom stands range h =
     let nobody : (m : ℕ) → is_listed r.correct m ≡ true → ⊥ = λ m is. false≢true (ap (λ (xs : List ℕ). is_listed xs m) (sym h.0.nodes) ∙ is) in
     let no_liar : (m : ℕ) → is_listed r.liars m ≡ true → ⊥ = λ m is. false≢true (ap (λ (xs : List ℕ). is_listed xs m) (sym h.0.liars) ∙ is) in
     record {
       group = h.1;
       tolerance = h.2;
-      kinds = height-low (form.Grouped t) ots tree range;
+      kinds = height-low (form.Grouped t) ots tree bottom range;
+      profile = kinds-fit (form.Grouped t) ots tree bottom range;
       some = λ node. absurd (false≢true node);
       count = omega (arith, ap (λ (xs : List ℕ). length xs) h.0.nodes, ap (λ (xs : List ℕ). length xs) h.0.liars);
       few = omega arith;
@@ -117,7 +119,7 @@ kinds-line (form.Grouped t) r ots tree stands range h =
       liars = λ m is. absurd (no_liar m is);
       apart = λ m is. absurd (nobody m is);
     }
-kinds-line _ r ots tree stands range h = absurd (false≢true stands)
+kinds-line _ r ots tree bottom stands range h = absurd (false≢true stands)
 
 node-line : (w : WorldText) (r : Roster) (m : ℕ) → IsTrue (is_roster w) → InRange w (lines.Node m) → IsRead w r → IsRead (after w (lines.Node m)) (record r { correct = r.correct ++ m ∷ [] })
 node-line (form.Roster t names node) r m stands range h =
@@ -126,6 +128,7 @@ node-line (form.Roster t names node) r m stands range h =
       group = h.group;
       tolerance = h.tolerance;
       kinds = h.kinds;
+      profile = h.profile;
       some = λ is. omega (arith, length-append r.correct (m ∷ []));
       count = omega (arith, h.count, length-append r.correct (m ∷ []), length-append names (m ∷ []));
       few = omega (arith, newcomer.few, length-append names (m ∷ []));
@@ -142,6 +145,7 @@ liar-line (form.Roster t names node) r m stands range h =
       group = h.group;
       tolerance = h.tolerance;
       kinds = h.kinds;
+      profile = h.profile;
       some = λ is. h.some (same-node node is);
       count = omega (arith, h.count, length-append r.liars (m ∷ []), length-append names (m ∷ []));
       few = omega (arith, newcomer.few, length-append names (m ∷ []));
@@ -167,7 +171,7 @@ begin-plays _ r stands h = absurd (false≢true stands)
 listed-fits : (w : WorldText) (r : Roster) (l : WorldLine) → Stands w l → InRange w l → IsRead w r → Fits (after w l) (listed setting_in r l)
 listed-fits w r lines.Header stands range h = header-line w r stands h
 listed-fits w r (lines.Group g) stands range h = group-line w r g stands range h
-listed-fits w r (lines.Kinds ots tree) stands range h = kinds-line w r ots tree stands range h
+listed-fits w r (lines.Kinds ots tree bottom) stands range h = kinds-line w r ots tree bottom stands range h
 listed-fits w r (lines.Node m) stands range h = node-line w r m stands range h
 listed-fits w r (lines.Liar m) stands range h = liar-line w r m stands range h
 listed-fits w r lines.Begin stands range h = begin-plays w r stands h
@@ -178,7 +182,7 @@ listed-fits w r l stands range h = absurd (no-body w r stands h)
 still-playing : (w : WorldText) (s : Setting) (l : WorldLine) → Stands w l → IsPlaying w s → IsPlaying (after w l) s
 still-playing (form.Body t ticks) s lines.Header stands h = absurd (false≢true stands)
 still-playing (form.Body t ticks) s (lines.Group g) stands h = absurd (false≢true stands)
-still-playing (form.Body t ticks) s (lines.Kinds ots tree) stands h = absurd (false≢true stands)
+still-playing (form.Body t ticks) s (lines.Kinds ots tree bottom) stands h = absurd (false≢true stands)
 still-playing (form.Body t ticks) s (lines.Node m) stands h = absurd (false≢true stands)
 still-playing (form.Body t ticks) s (lines.Liar m) stands h = absurd (false≢true stands)
 still-playing (form.Body t ticks) s lines.Begin stands h = absurd (false≢true stands)
@@ -186,7 +190,7 @@ still-playing (form.Body t ticks) s lines.End stands h = tt
 still-playing (form.Body t ticks) s l stands h = h
 still-playing form.Ended s lines.Header stands h = absurd (false≢true stands)
 still-playing form.Ended s (lines.Group g) stands h = absurd (false≢true stands)
-still-playing form.Ended s (lines.Kinds ots tree) stands h = absurd (false≢true stands)
+still-playing form.Ended s (lines.Kinds ots tree bottom) stands h = absurd (false≢true stands)
 still-playing form.Ended s (lines.Node m) stands h = absurd (false≢true stands)
 still-playing form.Ended s (lines.Liar m) stands h = absurd (false≢true stands)
 still-playing form.Ended s lines.Begin stands h = absurd (false≢true stands)
@@ -217,7 +221,7 @@ fits-behind p bytes l (Plays s w) b judged is h =
 
 can-begin : (w : WorldText) (r : Roster) → IsTrue (has_node w) → IsRead w r → CanBegin r
 can-begin (form.Roster t names node) r stands h =
-    record { group = h.group; some = h.some stands; few = omega (arith, h.count, h.few); kinds = h.kinds; apart = h.apart }
+    record { group = h.group; some = h.some stands; few = omega (arith, h.count, h.few); kinds = h.kinds; profile = h.profile; apart = h.apart }
 can-begin _ r stands h = absurd (false≢true stands)
 
 can-list : (w : WorldText) (l : WorldLine) (r kept : Roster) → Stands w l → kept ≡ r → IsRead w r → CanList kept l

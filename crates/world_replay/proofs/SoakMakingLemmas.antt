@@ -1,5 +1,5 @@
 -- Of which lines a workload is made.
-use Rattle.std.proofs.Common.{ℕ, zero, suc, ◌+◌, ◌-◌, ◌%◌, ◌<◌, Bool, true, false, cond, eqb, List, [], ◌∷◌, ◌++◌, map, take, arith, codes}
+use Rattle.std.proofs.Common.{None, ℕ, zero, suc, ◌+◌, ◌-◌, ◌%◌, ◌<◌, Bool, true, false, cond, eqb, List, [], ◌∷◌, ◌++◌, map, take, arith, codes}
 use Rattle.std.specs.Prelude.{slice_index}
 use Rattle.std.specs.Int.{w32, w64, to_be_bytes}
 use Rattle.std.specs.List.{AllByRecursion}
@@ -16,7 +16,7 @@ use Rattle.soak_lines.specs.Workload.{accusation_by, accusations, drawing_seed, 
 abbrev pub IsOfWorkload : WorldLine → Type 0
 IsOfWorkload lines.Header = Unit {0}
 IsOfWorkload (lines.Group g) = IsBytes g.tag
-IsOfWorkload (lines.Kinds ots tree) = Unit {0}
+IsOfWorkload (lines.Kinds ots tree None) = Unit {0}
 IsOfWorkload (lines.Node m) = Unit {0}
 IsOfWorkload (lines.Liar m) = Unit {0}
 IsOfWorkload lines.Begin = Unit {0}

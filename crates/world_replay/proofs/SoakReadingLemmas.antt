@@ -118,9 +118,9 @@ spelt w (lines.Group g) range is =
     let misses : g.misses < 2 ^ 64 = omega (arith, range.1.1.1.0.1) in
     spelt-as w (lines.Group g) (codes "group") (decimal g.t ∷ decimal g.timeout ∷ decimal g.period ∷ decimal g.misses ∷ encode_lower g.tag ∷ []) _ refl (t, (timeout, (period, (misses, (digits-spell g.tag is, tt))))) refl (omega arith) (omega arith)
     (number-fits g.t _ _ t (number-fits g.timeout _ _ timeout (number-fits g.period _ _ period (number-fits g.misses _ _ misses (tag-fits g.tag _ _ range.1.1.1.1.0 is none-fits)))))
-spelt w (lines.Kinds ots tree) range is =
-    let levels : height tree < 2 ^ 64 = omega (arith, height-low w ots tree range) in
-    spelt-as w (lines.Kinds ots tree) (codes "kinds") (decimal (width ots) ∷ decimal (height tree) ∷ []) _ refl (width-held ots, (levels, tt)) refl (omega arith) (omega arith)
+spelt w (lines.Kinds ots tree None) range is =
+    let levels : height tree < 2 ^ 64 = omega (arith, height-low w ots tree None range) in
+    spelt-as w (lines.Kinds ots tree None) (codes "kinds") (decimal (width ots) ∷ decimal (height tree) ∷ []) _ refl (width-held ots, (levels, tt)) refl (omega arith) (omega arith)
     (number-fits (width ots) _ _ (width-held ots) (number-fits (height tree) _ _ levels none-fits))
 spelt w (lines.Node m) range is =
     let who : m < 2 ^ 64 = omega (arith, (newcomer-in w m range).range) in
@@ -164,7 +164,7 @@ spelt w l range is = absurd is
 no-end : (l : WorldLine) → Stands form.Ended l → ⊥
 no-end lines.Header stands = false≢true stands
 no-end (lines.Group g) stands = false≢true stands
-no-end (lines.Kinds ots tree) stands = false≢true stands
+no-end (lines.Kinds ots tree bottom) stands = false≢true stands
 no-end (lines.Node m) stands = false≢true stands
 no-end (lines.Liar m) stands = false≢true stands
 no-end lines.Begin stands = false≢true stands

@@ -63,7 +63,7 @@ tick-sound m n form.Ended range sound = sound
 sound-after : (w : WorldText) (l : WorldLine) → IsSound w → InRange w l → IsOfWorkload l → IsSound (after w l)
 sound-after w lines.Header sound range is = tt
 sound-after w (lines.Group g) sound range is = range.0.1
-sound-after w (lines.Kinds ots tree) sound range is = small w sound
+sound-after w (lines.Kinds ots tree bottom) sound range is = small w sound
 sound-after w (lines.Node m) sound range is = member-sound m true w sound
 sound-after w (lines.Liar m) sound range is = member-sound m false w sound
 sound-after w lines.Begin sound range is = (small w sound, omega arith)

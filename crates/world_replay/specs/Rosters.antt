@@ -6,6 +6,7 @@ use Rattle.node_core.specs.Begins.{IsGroup}
 use Rattle.schedule_world.specs.declared.text.WorldText.{WorldText}
 use Rattle.schedule_world.specs.declared.text.WorldText.TheVariants as form
 use Rattle.schedule_world.specs.Rows.{most_members}
+use Rattle.sign_keys.specs.Kinds.{is_in_profile}
 use Rattle.world_rules.specs.Settings.{Setting}
 use Rattle.world_rules.specs.Walk.{Lists, Plays, Roster, Stage}
 use Rattle.world.specs.Opening.{IsApart}
@@ -27,7 +28,8 @@ AreNamed names listed = (m : ℕ) → is_listed listed m ≡ true → is_listed 
 pub record IsListed (t : ℕ) (names : List ℕ) (node : Bool) (r : Roster) : Type 0 where
   pub group : IsGroup r.group
   pub tolerance : r.group.t ≡ t
-  pub kinds : height r.tree ≤ 10
+  pub kinds : height r.kinds.tree ≤ 10
+  pub profile : is_in_profile r.kinds ≡ true
   pub some : node ≡ true → 0 < length r.correct
   pub count : length r.correct + length r.liars ≡ length names
   pub few : length names ≤ most_members

@@ -1,9 +1,10 @@
 -- What has come of a schedule, as it is kept, and what a line brings.
-use Rattle.std.specs.Prelude.{◌≡◌, ◌<◌, ◌≤◌, ◌+◌, ℕ, List, [], ◌∷◌, ◌++◌, length, Option, Some, None, Result, Ok, Err}
+use Rattle.std.specs.Prelude.{◌≡◌, ◌<◌, ◌≤◌, ◌+◌, ℕ, true, List, [], ◌∷◌, ◌++◌, length, Option, Some, None, Result, Ok, Err}
 use Rattle.lms_tree.specs.Kinds.{height}
 use Rattle.node_core.specs.Begins.{IsGroup}
 use Rattle.schedule_world.specs.declared.line.WorldLine.{WorldLine}
 use Rattle.schedule_world.specs.declared.line.WorldLine.TheVariants as lines
+use Rattle.sign_keys.specs.Kinds.{is_in_profile}
 use Rattle.world_rules.specs.Steps.{NodeEvent}
 use Rattle.world_rules.specs.Walk as walk
 use Rattle.world_rules.specs.Walk.{Brought, Lists, Plays, behind_line, brought, setting_in}
@@ -22,7 +23,8 @@ pub record CanBegin (r : walk.Roster) : Type 0 where
   pub group : IsGroup r.group
   pub some : 0 < length r.correct
   pub few : length r.correct + length r.liars ≤ 32
-  pub kinds : height r.tree ≤ 10
+  pub kinds : height r.kinds.tree ≤ 10
+  pub profile : is_in_profile r.kinds ≡ true
   pub apart : IsApart r.correct r.liars
 
 -- The roster may take the line: where it ends the roster, a world may begin with that.

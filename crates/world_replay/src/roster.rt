@@ -12,17 +12,17 @@ use fields::NoMemory;
 use lms_ots::OtsKind;
 use lms_tree::TreeKind;
 use schedule_world::WorldLine;
+use sign_keys::Kinds;
 use std::alloc::Global;
 use std::marker::Model;
 use world::World;
 use world_text::write_line;
 
-/// The group, the kinds of all keys, the nodes and the liars, as far as they were read.
+/// The group, the kinds of the members' keys, the nodes and the liars, as far as they were read.
 #[derive(Drop)]
 pub struct Roster {
     group: Group,
-    ots: OtsKind,
-    tree: TreeKind,
+    kinds: Kinds,
     nodes: Vec<MemberId>,
     liars: Vec<MemberId>,
 }
@@ -34,8 +34,7 @@ impl Model for Roster {
 
     ghost view = { λ r. record {
       group = r.group;
-      ots = r.ots;
-      tree = r.tree;
+      kinds = r.kinds;
       correct = r.nodes.items;
       liars = r.liars.items;
     } };
@@ -82,8 +81,11 @@ impl Roster {
                 period: 1,
                 misses: 1,
             },
-            ots: OtsKind::W1,
-            tree: TreeKind::H5,
+            kinds: Kinds {
+                ots: OtsKind::W1,
+                tree: TreeKind::H5,
+                bottom: None,
+            },
             nodes: Vec::new(alloc),
             liars: Vec::new(alloc),
         }
@@ -97,9 +99,12 @@ impl Roster {
     {
         match line {
             WorldLine::Group { group } => self.group = *group,
-            WorldLine::Kinds { ots, tree } => {
-                self.ots = *ots;
-                self.tree = *tree;
+            WorldLine::Kinds { ots, tree, bottom } => {
+                self.kinds = Kinds {
+                    ots: *ots,
+                    tree: *tree,
+                    bottom: *bottom,
+                };
             }
             WorldLine::Node { member } => self.nodes.push(*member)?,
             WorldLine::Liar { member } => self.liars.push(*member)?,
@@ -119,10 +124,11 @@ impl Roster {
         World::open(
             alloc,
             self.group,
-            self.ots,
-            self.tree,
+            self.kinds.ots,
+            self.kinds.tree,
             &self.nodes,
             &self.liars,
+            self.kinds.bottom,
         )
     }
 }

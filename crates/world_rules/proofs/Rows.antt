@@ -1,6 +1,6 @@
 -- Worked rows: what lines bring. A stand-in signature is its owner's code, its index and a code of the body, and verifies
 -- where owner and body are these; places are numbers.
-use Rattle.std.proofs.Common.{◌≡◌, ℕ, ◌+◌, ◌*◌, Bool, List, [], ◌∷◌, Option, None, Some, Result, Ok, Err, map, refl, replicate}
+use Rattle.std.proofs.Common.{◌≡◌, ℕ, ◌+◌, ◌*◌, Bool, false, List, [], ◌∷◌, Option, None, Some, Result, Ok, Err, map, refl, replicate}
 use Rattle.std.specs.Prelude.{◌%◌, ◌&&◌, ◌==◌, fold, codes}
 use Rattle.std.specs.List.{slice_index}
 use Rattle.ff_ids.specs.Masks.{bits_where}
@@ -62,6 +62,7 @@ signature_by who index body = code_of who ∷ index ∷ body_code body ∷ []
 
 abbrev pub verifies : Key → Record → Bool
 verifies (keys.Lms key) r = (slice_index key.id 0 == slice_index r.signature 0) && (slice_index r.signature 2 == body_code r.body)
+verifies (keys.Hss key) r = false
 
 abbrev pub group : Group
 group = record { tag = replicate 16 0; t = 1; timeout = 4; period = 1; misses = 2 }
@@ -72,6 +73,7 @@ setting indexes correct liars =
     record {
       group = group;
       indexes = indexes;
+      authority_indexes = indexes;
       correct = correct;
       liars = liars;
       places = λ m. (m ∷ []) ∷ (m ∷ []) ∷ (m ∷ []) ∷ [];

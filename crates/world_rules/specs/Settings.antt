@@ -15,13 +15,15 @@ use Rattle.node_rules.specs.Nodes as node
 abbrev pub Owner : Type 0
 Owner = Option ℕ
 
--- What a world is opened with: the group, how many indexes each key has, which members are correct and which lie. What
--- hashes and signatures are is no rule of a world: the places of a member on the rings, whether a record's signature
--- verifies under a key, the public half of an owner's key, the signature with it of an index over a body, and the seed
--- of the nonces of a member's life, by the next index that its store keeps as the life begins.
+-- What a world is opened with: the group, how many indexes the key of each member has, and how many the authority's, which
+-- members are correct and which lie. What hashes and signatures are is no rule of a world: the places of a member on the
+-- rings, whether a record's signature verifies under a key, the public half of an owner's key, the signature with it of an
+-- index over a body, and the seed of the nonces of a member's life, by the next index that its store keeps as the life
+-- begins.
 pub record Setting : Type 0 where
   pub group : Group
   pub indexes : ℕ
+  pub authority_indexes : ℕ
   pub correct : List ℕ
   pub liars : List ℕ
   pub places : ℕ → List (List ℕ)
@@ -29,6 +31,11 @@ pub record Setting : Type 0 where
   pub key : Owner → Key
   pub signature : Owner → ℕ → Body → List ℕ
   pub nonces : ℕ → ℕ → List ℕ
+
+-- How many indexes the owner's key has.
+abbrev pub indexes_for : Setting → Owner → ℕ
+indexes_for s None = s.authority_indexes
+indexes_for s (Some m) = s.indexes
 
 -- ---- who there is
 

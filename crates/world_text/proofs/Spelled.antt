@@ -1,7 +1,9 @@
 -- Lines as their grammar spells them.
-use Rattle.std.proofs.Common.{◌≡◌, ℕ, List, [], ◌∷◌, ◌++◌, refl, ap, ◌∙◌, codes, append_assoc}
+use Rattle.std.proofs.Common.{◌≡◌, ℕ, List, [], ◌∷◌, ◌++◌, Some, None, refl, ap, ◌∙◌, codes, append_assoc, append-nil}
 use Rattle.std.specs.Fmt.{decimal}
 use Rattle.hex.specs.Hex.{encode_lower}
+use Rattle.lms_ots.specs.Ots.{width}
+use Rattle.lms_tree.specs.Kinds.{height}
 use Rattle.schedule_world.specs.Grammar.{spelled_epoch}
 use Rattle.schedule_world.specs.declared.line.WorldLine.TheVariants as lines
 use Rattle.world_text.specs.Lines.{LinesAreSpelled}
@@ -20,10 +22,16 @@ six_words a b c d e f =
     two_words a b (32 ∷ (c ++ 32 ∷ [] ++ d ++ 32 ∷ (e ++ 32 ∷ [] ++ f)))
     ∙ ap (λ (z : List ℕ). a ++ 32 ∷ (b ++ 32 ∷ z)) (two_words c d (32 ∷ (e ++ 32 ∷ [] ++ f)) ∙ ap (λ (z : List ℕ). c ++ 32 ∷ (d ++ 32 ∷ z)) (append_assoc e (32 ∷ []) f))
 
+-- the words of kinds of one level
+one_level : (w h : List ℕ) → codes "kinds " ++ w ++ codes " " ++ h ≡ codes "kinds" ++ 32 ∷ (w ++ 32 ∷ h)
+one_level w h = simp append_assoc refl
+
 pub spelled : LinesAreSpelled
 spelled lines.Header = refl
 spelled (lines.Group g) = ap (λ (z : List ℕ). codes "group " ++ z) (five_words (decimal g.t) (decimal g.timeout) (decimal g.period) (decimal g.misses) (encode_lower g.tag))
-spelled (lines.Kinds ots tree) = simp append_assoc refl
+spelled (lines.Kinds ots tree None) =
+    append-nil (codes "kinds " ++ decimal (width ots) ++ codes " " ++ decimal (height tree)) ∙ one_level (decimal (width ots)) (decimal (height tree))
+spelled (lines.Kinds ots tree (Some bottom)) = simp append_assoc refl
 spelled (lines.Node m) = refl
 spelled (lines.Liar m) = refl
 spelled lines.Begin = refl

@@ -1,12 +1,14 @@
 -- Lines of a world as they are written back. Hexadecimal digits are in lower case.
-use Rattle.std.specs.Prelude.{◌≡◌, ℕ, List, [], ◌∷◌, ◌++◌, Option, codes, decimal, length, take}
+use Rattle.std.specs.Prelude.{◌≡◌, ℕ, List, [], ◌∷◌, ◌++◌, Option, Some, None, codes, decimal, length, take}
 use Rattle.std.specs.List.{join_with_byte}
 use Rattle.hex.specs.Hex.{encode_lower}
 use Rattle.ff_ids.specs.declared.Group.{Group}
 use Rattle.ff_ids.specs.declared.NoteBody.{NoteBody}
 use Rattle.ff_ids.specs.declared.RingNo.{RingNo}
 use Rattle.lms_ots.specs.Ots.{width}
+use Rattle.lms_ots.specs.declared.kind.OtsKind.{OtsKind}
 use Rattle.lms_tree.specs.Kinds.{height}
+use Rattle.lms_tree.specs.declared.kind.TreeKind.{TreeKind}
 use Rattle.schedule_world.specs.declared.line.WorldLine.TheVariants as lines
 use Rattle.schedule_world.specs.declared.line.WorldLine.{WorldLine}
 use Rattle.schedule_world.specs.Grammar.{spelled_epoch, spelled_words}
@@ -19,6 +21,14 @@ group_end period misses tag = codes " " ++ decimal period ++ codes " " ++ decima
 
 abbrev pub group_text : Group → List ℕ
 group_text g = group_start g.t g.timeout ++ group_end g.period g.misses g.tag
+
+-- the height of the bottom trees, of keys of two levels
+abbrev pub bottom_text : Option TreeKind → List ℕ
+bottom_text None = []
+bottom_text (Some bottom) = codes " " ++ decimal (height bottom)
+
+abbrev pub kinds_text : OtsKind → TreeKind → Option TreeKind → List ℕ
+kinds_text ots tree bottom = codes "kinds " ++ decimal (width ots) ++ codes " " ++ decimal (height tree) ++ bottom_text bottom
 
 -- no bytes are a dash
 abbrev pub bytes_text : List ℕ → List ℕ
@@ -50,7 +60,7 @@ accusation_line key accuser accused epoch ring name = accusation_start key accus
 abbrev pub line_text : WorldLine → List ℕ
 line_text lines.Header = codes "fireflies 1 world"
 line_text (lines.Group g) = group_text g
-line_text (lines.Kinds ots tree) = codes "kinds " ++ decimal (width ots) ++ codes " " ++ decimal (height tree)
+line_text (lines.Kinds ots tree bottom) = kinds_text ots tree bottom
 line_text (lines.Node m) = codes "node " ++ decimal m
 line_text (lines.Liar m) = codes "liar " ++ decimal m
 line_text lines.Begin = codes "begin"

@@ -2,9 +2,8 @@
 
 ghost use Rattle.std.specs.Prelude.{◌≡◌, ◌++◌, ℕ, Option, OnOk, OnErr, codes, decimal};
 ghost use Rattle.lms_ots.specs.Ots.{width as width_of};
-ghost use Rattle.lms_tree.specs.Kinds.{height};
 ghost use Rattle.schedule_world.specs.Grammar.{spelled_epoch};
-ghost use Rattle.world_text.specs.Lines.{Began, accusation_end, accusation_line, accusation_middle, bytes_text, group_end, group_text, line_text, note_end, note_line};
+ghost use Rattle.world_text.specs.Lines.{Began, accusation_end, accusation_line, accusation_middle, bottom_text, bytes_text, group_end, group_text, kinds_text, line_text, note_end, note_line};
 
 use ff_ids::{Epoch, Group, Mask, MemberId, NoteBody, RingNo};
 use fields::{Name, NoMemory};
@@ -66,14 +65,27 @@ fn width(ots: OtsKind) -> u8
     }
 }
 
-fn add_kinds(ots: OtsKind, tree: TreeKind, out: &mut Vec<u8>) -> Result<(), NoMemory>
-    ensures ok { OnOk result
-        (out.new.items
-        ≡ out.old.items ++ (codes "kinds " ++ decimal (width_of ots) ++ codes " " ++ decimal
-        (height tree))) }
+fn add_bottom(bottom: Option<TreeKind>, out: &mut Vec<u8>) -> Result<(), NoMemory>
+    ensures ok { OnOk result (out.new.items ≡ out.old.items ++ bottom_text bottom) }
     ensures refused { OnErr result (Began out.old.items out.new.items) }
 {
-    add_of_two(b"kinds ", width(ots).into(), tree.height() as u64, out)
+    match bottom {
+        None => Ok(()),
+        Some(tree) => add_of_number(b" ", tree.height() as u64, out),
+    }
+}
+
+fn add_kinds(
+    ots: OtsKind,
+    tree: TreeKind,
+    bottom: Option<TreeKind>,
+    out: &mut Vec<u8>,
+) -> Result<(), NoMemory>
+    ensures ok { OnOk result (out.new.items ≡ out.old.items ++ kinds_text ots tree bottom) }
+    ensures refused { OnErr result (Began out.old.items out.new.items) }
+{
+    add_of_two(b"kinds ", width(ots).into(), tree.height() as u64, out)?;
+    add_bottom(bottom, out)
 }
 
 fn add_raw(member: MemberId, bytes: &[u8], out: &mut Vec<u8>) -> Result<(), NoMemory>
@@ -212,7 +224,7 @@ fn add_line(line: &WorldLine, out: &mut Vec<u8>) -> Result<(), NoMemory>
     match line {
         WorldLine::Header => write_bytes(b"fireflies 1 world", out),
         WorldLine::Group { group } => add_group(group, out),
-        WorldLine::Kinds { ots, tree } => add_kinds(*ots, *tree, out),
+        WorldLine::Kinds { ots, tree, bottom } => add_kinds(*ots, *tree, *bottom, out),
         WorldLine::Node { member } => add_of_number(b"node ", member.get().into(), out),
         WorldLine::Liar { member } => add_of_number(b"liar ", member.get().into(), out),
         WorldLine::Begin => write_bytes(b"begin", out),

@@ -22,7 +22,7 @@ returns-in-Some c = λ s w told h.
     let there : IsPlace v at m = subst (λ (z : Kept). IsPlace z at m) (sym c.self.view_is) (c.in-Some.ensures.place s h.nodes).1 in
     let within : at < length v.hosts = subst (λ (z : Kept). at < length z.hosts) (sym c.self.view_is) c.in-Some.ensures.within in
     let found : slice_get v.hosts at ≡ Some x = slice_get_read v.hosts (length v.hosts) at x refl within c.index.ensures in
-    c.has_left.ensures s held.ots held.tree (w.hosts m) (spent_of w (Some m)) (place-holds s w told v m at x held there found)
+    c.has_left.ensures s held.kinds (w.hosts m) (spent_of w (Some m)) (place-holds s w told v m at x held there found)
     ∙ ap (λ (k : ℕ). option_map_or (has_left_in s k) (w.hosts m).current false) (number-at v.hosts m at x there found)
 
 -- Nobody runs who is no node.

@@ -15,7 +15,7 @@ returns-then-not-has_signed c = λ s w told h.
     let signed : c.has_signed.result ≡ has_signed w None r.body = c.has_signed.ensures ∙ authority-signed s w told v r.body held in
     let fresh : c.has_signed.result ≡ false = search rules in
     let can : c.verifies.result ≡ s.verifies (s.key None) r =
-    verifies-as s v.authority.group c.group.result.now held.ots held.tree (keys.Lms c.key.result.now) (s.key None) r c.verifies.result c.verifies.ensures c.group.ensures (ap keys.Lms c.key.ensures ∙ held.authority.key) held.world.made in
+    verifies-as s v.authority.group c.group.result.now held.kinds (keys.Lms c.key.result.now) (s.key None) r c.verifies.result c.verifies.ensures c.group.ensures (ap keys.Lms c.key.ensures ∙ held.authority.key) held.world.made in
     forged-then s w r None c.has_signed.result c.verifies.result signed can fresh
 
 pub returns-else-not-has_signed : goal.returns-else-not-has_signed

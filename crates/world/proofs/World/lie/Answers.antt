@@ -5,7 +5,7 @@ use Rattle.std.specs.List.{slice_get}
 use Rattle.std.proofs.lemmas.Option.{slice_get_read}
 use Rattle.ff_ids.specs.declared.Group.{Group}
 use Rattle.datagram.specs.Spelling.{datagram_bytes}
-use Rattle.datagram.specs.declared.Datagram.TheVariants as kinds
+use Rattle.datagram.specs.declared.Datagram.TheVariants as datagrams
 use Rattle.records.specs.Signing.{CheckedRecord}
 use Rattle.signer.specs.Signing.{signed_by}
 use Rattle.world_rules.specs.Steps.{lies}
@@ -32,7 +32,7 @@ returns-clause-lies c = λ s w told key h is.
     let signed : c.in-Some.checked ≡ signed_by v.authority.group x.key.key x.key.next c.args.body =
     by_group ∙ ap (λ (g : Group). signed_by g x.key.key x.key.next c.args.body) c.group.ensures in
     let lied : Lied x later c.args.body = subst (λ (o : Option CheckedRecord). IfSome o (λ _. Lied x later c.args.body)) c.in-Some.is c.in_ok-checked.ensures.lied in
-    let given : c.in_ok-given.given.bytes ≡ datagram_bytes (kinds.Records later.member (c.in-Some.checked.rec ∷ [])) = c.in_ok-given.ensures in
+    let given : c.in_ok-given.given.bytes ≡ datagram_bytes (datagrams.Records later.member (c.in-Some.checked.rec ∷ [])) = c.in_ok-given.ensures in
     let entries : c.insert.new.self.entries ≡ put c.self.inside.named.entries c.in_ok-name.name c.in_ok-given.given = c.in_ok-insert.ensures.entries in
     let signs : Signs v c.args.at x later c.args.body c.in-Some.checked c.args.name.now c.in_ok-name.name c.in_ok-given.given =
     record { found = found; lied = lied; signed = signed; bytes = given; key = items ∙ c.as_slice.ensures.bytes } in

@@ -1,71 +1,72 @@
 use Rattle.std.proofs.Common.{◌≡◌, ℕ, ◌+◌, List, refl, ap, sym, ◌∙◌, subst, arith}
 use Rattle.ff_ids.specs.declared.TheConstants.{MEMBERS}
 use Rattle.ff_ids.specs.declared.Group.{Group}
-use Rattle.lms_ots.specs.declared.OtsKind.{OtsKind}
-use Rattle.lms_tree.specs.declared.TreeKind.{TreeKind}
+use Rattle.sign_keys.specs.declared.kinds.Kinds.{Kinds}
 use Rattle.node_core.specs.Begins.{IsGroup}
 use Rattle.world_rules.specs.Keys.{setting_for}
 use Rattle.world_rules.specs.Settings.{Setting}
 use Rattle.world_host.specs.Holding.{IsWorld}
 use Rattle.world.specs.Holding.{Kept}
-use Rattle.world.specs.Opening.{Builds}
+use Rattle.records.specs.declared.keys.Key.TheVariants as keys
+use Rattle.world.specs.Opening.{Builds, kinds_with}
 use Rattle.world.proofs.LeafLemmas.{has-leaf}
-use Rattle.world.proofs.OpeningLemmas.{builds-first, holds-built, is-apart, is-world, mapped-none, new_authority}
+use Rattle.world.proofs.OpeningLemmas.{builds-first, holds-built, is-apart, is-world, mapped-none}
 use Rattle.world.proofs.World.open.Goals as goal
 
 pub loop-number-init : goal.loop-number-init
-loop-number-init c = (
-  ap (λ a. a.key) c.new.ensures ∙ c.public.ensures,
-  ap (λ a. a.group) c.new.ensures,
-  builds-first c.args.group c.args.ots c.args.tree c.args.nodes.now c.args.liars.now c.of-signing.result _
-      (ap (λ k. k.key) c.of-signing.ensures ∙ c.in_ok-key_of.ensures)
-      (ap (λ k. k.next) c.of-signing.ensures)
-      (c.new.ensures ∙ ap (new_authority c.args.group) c.public.ensures)
-      c.new-2.ensures.items
-      c.new-3.ensures.items
-      c.new-4.ensures
-      refl
-      (mapped-none _ _ c.new-5.ensures.empty)
-      c.new-6.ensures
-      c.new-7.ensures,
-)
+loop-number-init c =
+    let kinds : Kinds = kinds_with c.args.ots c.args.tree c.args.bottom in
+    let made = c.in_ok-signing.ensures in (
+      ap keys.Lms (ap (λ a. a.key) c.new.ensures) ∙ made.public,
+      ap (λ a. a.group) c.new.ensures,
+      builds-first c.args.group kinds c.args.nodes.now c.args.liars.now c.in_ok-signing.signing c.in_ok-signing.public _
+          (ap (λ k. k.key) (made.key c.args.bottom))
+          (ap (λ k. k.next) (made.key c.args.bottom))
+          made.public
+          c.new.ensures
+          c.new-2.ensures.items
+          c.new-3.ensures.items
+          c.new-4.ensures
+          refl
+          (mapped-none _ _ c.new-5.ensures.empty)
+          c.new-6.ensures
+          c.new-7.ensures,
+    )
 
 pub add_listed-requires-clause-left : goal.add_listed-requires-clause-left
 add_listed-requires-clause-left c =
     let g : Group = c.args.group in
+    let kinds : Kinds = kinds_with c.args.ots c.args.tree c.args.bottom in
     let correct : List ℕ = c.args.nodes.now in
     let liars : List ℕ = c.args.liars.now in
-    let s : Setting = setting_for g c.args.ots c.args.tree correct liars in
-    has-leaf g c.args.ots c.args.tree correct liars c.new-member.result c.loop-number.signing c.loop-number.world c.requires.few
-    (subst (λ (n : ℕ). Builds s c.args.ots c.args.tree n c.loop-number.signing c.loop-number.world) (sym c.new-member.ensures) c.loop-number.invariant.2)
+    has-leaf g kinds correct liars c.new-member.result c.loop-number.signing c.loop-number.world c.requires.few
+    (subst (λ (n : ℕ). Builds (setting_for g kinds correct liars) kinds n c.loop-number.signing c.loop-number.world) (sym c.new-member.ensures) c.loop-number.invariant.2)
 
 pub loop-number-preserved : goal.loop-number-preserved
 loop-number-preserved c =
     let g : Group = c.args.group in
-    let ots : OtsKind = c.args.ots in
-    let tree : TreeKind = c.args.tree in
+    let kinds : Kinds = kinds_with c.args.ots c.args.tree c.args.bottom in
     let correct : List ℕ = c.args.nodes.now in
     let liars : List ℕ = c.args.liars.now in
-    let s : Setting = setting_for g ots tree correct liars in
+    let s : Setting = setting_for g kinds correct liars in
     let so = c.loop-number.invariant in
-    let is : s ≡ setting_for c.loop-number.world.authority.group ots tree correct liars = ap (λ (z : Group). setting_for z ots tree correct liars) (sym so.1) in
-    let here : Builds s ots tree c.new-member.result c.loop-number.signing c.loop-number.world =
-    subst (λ (n : ℕ). Builds s ots tree n c.loop-number.signing c.loop-number.world) (sym c.new-member.ensures) so.2 in (
+    let is : s ≡ setting_for c.loop-number.world.authority.group kinds correct liars = ap (λ (z : Group). setting_for z kinds correct liars) (sym so.1) in
+    let here : Builds s kinds c.new-member.result c.loop-number.signing c.loop-number.world =
+    subst (λ (n : ℕ). Builds s kinds n c.loop-number.signing c.loop-number.world) (sym c.new-member.ensures) so.2 in (
       c.in_ok-add_listed.ensures.key,
       c.in_ok-add_listed.ensures.group ∙ so.1,
-      subst (λ (n : ℕ). Builds s ots tree (n + 1) c.add_listed.new.signing c.add_listed.new.self) c.new-member.ensures (c.in_ok-add_listed.ensures.builds s is c.requires.apart here),
+      subst (λ (n : ℕ). Builds s kinds (n + 1) c.add_listed.new.signing c.add_listed.new.self) c.new-member.ensures (c.in_ok-add_listed.ensures.builds s is c.requires.apart here),
     )
 
 pub returns : goal.returns
 returns c =
     let g : Group = c.args.group in
-    let ots : OtsKind = c.args.ots in
-    let tree : TreeKind = c.args.tree in
+    let kinds : Kinds = kinds_with c.args.ots c.args.tree c.args.bottom in
     let correct : List ℕ = c.args.nodes.now in
     let liars : List ℕ = c.args.liars.now in
-    let s : Setting = setting_for g ots tree correct liars in
+    let s : Setting = setting_for g kinds correct liars in
     let v : Kept = c.loop-number.world in
     let so = c.loop-number.invariant in
     let all : c.loop-number.number ≡ MEMBERS = omega (arith, c.loop-number-test.false, c.loop-number.auto) in
-    let world : IsWorld s v.authority.group ots tree = subst (λ (z : Group). IsWorld s z ots tree) (sym so.1) (is-world g ots tree correct liars s refl c.requires.group.few) in
-    holds-built s ots tree c.loop-number.number c.loop-number.signing v all world (subst IsGroup (sym so.1) c.requires.group) (is-apart g ots tree correct liars s refl c.requires.apart) so.2
+    let world : IsWorld s v.authority.group kinds = subst (λ (z : Group). IsWorld s z kinds) (sym so.1) (is-world g kinds correct liars s refl c.requires.group.few c.requires.profile) in
+    holds-built s kinds c.loop-number.number c.loop-number.signing v all world (subst IsGroup (sym so.1) c.requires.group) (is-apart g kinds correct liars s refl c.requires.apart) so.2

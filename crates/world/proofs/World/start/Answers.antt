@@ -64,13 +64,13 @@ record Stopped (s : Setting) (w : ModelWorld) (before : List NodeEvent) (v : Kep
   holds : Holds s (with_host m place w) before (record v { hosts = set v.hosts at later })
 
 stops-so : (s : Setting) (w : ModelWorld) (before : List NodeEvent) (v : Kept) (m at : ℕ) (x later : HostState) → (h : Holds s w before v) → IsPlace v at m → later.member ≡ m
-    → StartsNode s h.ots h.tree (w.hosts m) (spent_of w (Some m)) later (Ok starts.DiskStopped) → Stopped s w before v m at later
+    → StartsNode s h.kinds (w.hosts m) (spent_of w (Some m)) later (Ok starts.DiskStopped) → Stopped s w before v m at later
 stops-so s w before v m at x later h there own (inl o) =
     let place : Host = with_disk (w.hosts m) (stopped (w.hosts m).disk) in
     record {
       place = place;
       same = stops-opening s m w o.stops;
-      holds = holds-changed s w before v m at later place h there own (subst (λ (k : ℕ). HoldsHost s h.ots h.tree place (spent_of w (Some k)) later) (sym own) o.holds);
+      holds = holds-changed s w before v m at later place h there own (subst (λ (k : ℕ). HoldsHost s h.kinds place (spent_of w (Some k)) later) (sym own) o.holds);
     }
 stops-so s w before v m at x later h there own (inr o) =
     let opened : Host = opened_place (w.hosts m) in
@@ -79,7 +79,7 @@ stops-so s w before v m at x later h there own (inr o) =
       place = put m;
       same = stops-putting s m w o.0 o.1.left o.1.stops;
       holds = holds-changed s w before v m at later (put m) h there own
-          (subst (λ (k : ℕ). HoldsHost s h.ots h.tree (put m) (spent_of w (Some k)) later) (sym own) (subst (λ (k : ℕ). HoldsHost s h.ots h.tree (put k) (spent_of w (Some m)) later) own o.1.holds));
+          (subst (λ (k : ℕ). HoldsHost s h.kinds (put m) (spent_of w (Some k)) later) (sym own) (subst (λ (k : ℕ). HoldsHost s h.kinds (put k) (spent_of w (Some m)) later) own o.1.holds));
     }
 
 pub start-requires : goal.start-requires
@@ -119,8 +119,8 @@ returns-in-Began-clause-starts c = λ s w before m h place stands.
     let held : Holds s w before v = subst (Holds s w before) (sym c.self.view_is) h in
     let there : IsPlace v c.args.at m = subst (λ (z : Kept). IsPlace z c.args.at m) (sym c.self.view_is) place in
     let own : later.member ≡ m = c.start.ensures.member ∙ number-at v.hosts m c.args.at x there found in
-    let started = subst (λ (r : Started). StartsNode s held.ots held.tree (w.hosts m) (spent_of w (Some m)) later (Ok r)) c.in-Began.is
-    (c.in_ok-life.ensures.starts s held.ots held.tree (w.hosts m) (spent_of w (Some m)) held.world held.authority (place-holds s w before v m c.args.at x held there found) (none-runs (w.hosts m).current stands)) in
+    let started = subst (λ (r : Started). StartsNode s held.kinds (w.hosts m) (spent_of w (Some m)) later (Ok r)) c.in-Began.is
+    (c.in_ok-life.ensures.starts s held.kinds (w.hosts m) (spent_of w (Some m)) held.world held.authority (place-holds s w before v m c.args.at x held there found) (none-runs (w.hosts m).current stands)) in
     let began : Kept = record v { hosts = set v.hosts c.args.at later } in
     let numbered : numbers began ≡ numbers v = numbers-kept v.hosts c.args.at x later found c.start.ensures.member in
     let later_place : IsPlace began c.args.at m = ap (λ (z : List ℕ). slice_get z c.args.at) numbered ∙ there in
@@ -148,8 +148,8 @@ returns-in-DiskStopped-clause-starts c = λ s w before m h place stands.
     let held : Holds s w before v = subst (Holds s w before) (sym c.self.view_is) h in
     let there : IsPlace v c.args.at m = subst (λ (z : Kept). IsPlace z c.args.at m) (sym c.self.view_is) place in
     let own : later.member ≡ m = c.start.ensures.member ∙ number-at v.hosts m c.args.at x there found in
-    let started = subst (λ (r : Started). StartsNode s held.ots held.tree (w.hosts m) (spent_of w (Some m)) later (Ok r)) c.in-DiskStopped.is
-    (c.in_ok-life.ensures.starts s held.ots held.tree (w.hosts m) (spent_of w (Some m)) held.world held.authority (place-holds s w before v m c.args.at x held there found) (none-runs (w.hosts m).current stands)) in
+    let started = subst (λ (r : Started). StartsNode s held.kinds (w.hosts m) (spent_of w (Some m)) later (Ok r)) c.in-DiskStopped.is
+    (c.in_ok-life.ensures.starts s held.kinds (w.hosts m) (spent_of w (Some m)) held.world held.authority (place-holds s w before v m c.args.at x held there found) (none-runs (w.hosts m).current stands)) in
     let left = stops-so s w before v m c.args.at x later held there own started in
     let verdict : Verdict = verdicts.DiskStopped in
     let world = with_host m left.place w in
@@ -175,10 +175,10 @@ returns-in-UsedUp-clause-starts c = λ s w before m h place stands.
     let held : Holds s w before v = subst (Holds s w before) (sym c.self.view_is) h in
     let there : IsPlace v c.args.at m = subst (λ (z : Kept). IsPlace z c.args.at m) (sym c.self.view_is) place in
     let own : later.member ≡ m = c.start.ensures.member ∙ number-at v.hosts m c.args.at x there found in
-    let started = subst (λ (r : Started). StartsNode s held.ots held.tree (w.hosts m) (spent_of w (Some m)) later (Ok r)) c.in-UsedUp.is
-    (c.in_ok-life.ensures.starts s held.ots held.tree (w.hosts m) (spent_of w (Some m)) held.world held.authority (place-holds s w before v m c.args.at x held there found) (none-runs (w.hosts m).current stands)) in
-    let kept : HoldsHost s held.ots held.tree (opened_place (w.hosts m)) (spent_of w (Some later.member)) later =
-    subst (λ (k : ℕ). HoldsHost s held.ots held.tree (opened_place (w.hosts m)) (spent_of w (Some k)) later) (sym own) started.1.holds in
+    let started = subst (λ (r : Started). StartsNode s held.kinds (w.hosts m) (spent_of w (Some m)) later (Ok r)) c.in-UsedUp.is
+    (c.in_ok-life.ensures.starts s held.kinds (w.hosts m) (spent_of w (Some m)) held.world held.authority (place-holds s w before v m c.args.at x held there found) (none-runs (w.hosts m).current stands)) in
+    let kept : HoldsHost s held.kinds (opened_place (w.hosts m)) (spent_of w (Some later.member)) later =
+    subst (λ (k : ℕ). HoldsHost s held.kinds (opened_place (w.hosts m)) (spent_of w (Some k)) later) (sym own) started.1.holds in
     let world = with_host m (opened_place (w.hosts m)) w in
     let holds : Holds s world before (record v { hosts = set v.hosts c.args.at later }) = holds-changed s w before v m c.args.at later (opened_place (w.hosts m)) held there own kept in
     let verdict : Verdict = verdicts.Refused (whys.UsedUp c.in-UsedUp.next) in

@@ -5,7 +5,7 @@ use Rattle.world.specs.contracts.World.{the_view}
 use Rattle.world.specs.declared.liar.Liar.{Liar}
 use Rattle.world.specs.Holding.{Holds, Kept, liar_numbers}
 use Rattle.std.proofs.lemmas.Bool.{false≢true}
-use Rattle.lms_tree.specs.Kinds.{leaf_count}
+use Rattle.sign_keys.specs.Keys.{index_count}
 use Rattle.world.proofs.SignerLemmas.{liar-leaves, liar-next, used-false, used-true}
 use Rattle.world.proofs.World.used_up.Goals as goal
 
@@ -23,7 +23,7 @@ returns-then-is_used_up-clause-value c = λ s w told h liar.
     let held = subst (Holds s w told) (sym c.self.view_is) h in
     let there = subst (λ (z : Kept). slice_get (liar_numbers z) at ≡ Some c.args.key) (sym c.self.view_is) placed.1 in
     let used : c.is_used_up.result ≡ true = search rules in
-    used-true s w c.args.key x.key.next c.next.result (leaf_count x.key.key.tree) (liar-next s w told v c.args.key at x held there found) (liar-leaves s w told v c.args.key at x held there found) c.next.ensures (sym c.is_used_up.ensures ∙ used)
+    used-true s w c.args.key x.key.next c.next.result (index_count x.key.key) (liar-next s w told v c.args.key at x held there found) (liar-leaves s w told v c.args.key at x held there found) c.next.ensures (sym c.is_used_up.ensures ∙ used)
 
 pub returns-else-is_used_up-clause-value : goal.returns-else-is_used_up-clause-value
 returns-else-is_used_up-clause-value c = λ s w told h liar.
@@ -36,4 +36,4 @@ returns-else-is_used_up-clause-value c = λ s w told h liar.
     let held = subst (Holds s w told) (sym c.self.view_is) h in
     let there = subst (λ (z : Kept). slice_get (liar_numbers z) at ≡ Some c.args.key) (sym c.self.view_is) placed.1 in
     let left : c.is_used_up.result ≡ false = search rules in
-    used-false s w c.args.key x.key.next (leaf_count x.key.key.tree) (liar-next s w told v c.args.key at x held there found) (liar-leaves s w told v c.args.key at x held there found) (sym c.is_used_up.ensures ∙ left)
+    used-false s w c.args.key x.key.next (index_count x.key.key) (liar-next s w told v c.args.key at x held there found) (liar-leaves s w told v c.args.key at x held there found) (sym c.is_used_up.ensures ∙ left)

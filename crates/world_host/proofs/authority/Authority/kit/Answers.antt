@@ -9,13 +9,13 @@ use Rattle.world_host.proofs.KitLemmas.{kit-sound}
 use Rattle.world_host.proofs.authority.Authority.kit.Goals as goal
 
 pub returns-clause-sound : goal.returns-clause-sound
-returns-clause-sound c = λ own place.
+returns-clause-sound c = λ kinds own place.
     let a : Certifying = c.args.self.now in
     let low : c.args.me < MEMBERS = search rules in
     let copied : c.in_ok-certificates.certificates.items ≡ c.self.inside.certificates.items = c.in_ok-certificates.ensures ∙ c.deref.ensures.value in
     let same : c.in_ok-certificates.certificates.items ≡ a.certificates = copied ∙ ap (λ (z : Certifying). z.certificates) c.self.view_is in
     let group : c.self.inside.group ≡ a.group = ap (λ (z : Certifying). z.group) c.self.view_is in
-    kit-sound a c.args.me own (record {
+    kit-sound a kinds c.args.me own (record {
       group = c.self.inside.group;
       me = c.args.me;
       authority = c.self.inside.key;

@@ -15,7 +15,7 @@ use Rattle.world_host.proofs.host.Host.leave.Goals as goal
 pub end_call-requires-clause-going : goal.end_call-requires-clause-going
 end_call-requires-clause-going c =
     let runs : c.self.inside.node ≡ Some c.in-Some.node = search rules in
-    let g : IsGoing c.in-Some.node = some-going c.self.inside.node c.in-Some.node c.self.invariant.1 runs in
+    let g : IsGoing c.in-Some.node = some-going c.self.inside.node c.in-Some.node c.self.invariant.2 runs in
     let old : CallerBuffers = record { events = c.new-events.result; sent = c.args.out.now } in
     let new : CallerBuffers = record { events = c.leave-called.new.events; sent = c.leave-called.new.out } in
     going-on g.life g.inputs Leaves c.leave-called.new.self old new c.leave-called.result g.correct (c.leave-called.ensures.step g.life.setting (node_after g.life g.inputs) g.is g.going) c.leave-called.ensures.ended
@@ -23,13 +23,14 @@ end_call-requires-clause-going c =
 pub end_call-requires-clause-cause : goal.end_call-requires-clause-cause
 end_call-requires-clause-cause c =
     let runs : c.self.inside.node ≡ Some c.in-Some.node = search rules in
-    c.leave-called.ensures.stops (some-going c.self.inside.node c.in-Some.node c.self.invariant.1 runs).going
+    c.leave-called.ensures.stops (some-going c.self.inside.node c.in-Some.node c.self.invariant.2 runs).going
 
 pub returns-clause-calls : goal.returns-clause-calls
-returns-clause-calls c = λ s g ots tree place spent w h.
+returns-clause-calls c = λ s g kinds place spent w h.
     let inside = c.self.inside in
     let x : HostState = record {
       member = inside.member;
+      kinds = inside.kinds;
       public = inside.public;
       key = inside.key;
       tag = inside.tag;
@@ -46,7 +47,7 @@ returns-clause-calls c = λ s g ots tree place spent w h.
     let fine : is_err c.end_call.result ≡ false = search rules in
     let kept : c.keep_bodies.new.self ≡ record c.end_call.new.self { signed = c.end_call.new.self.signed ++ bodies_in new.events } =
     c.in_ok-keep_bodies.ensures.kept ∙ ap (λ (es : List journal.Event). record c.end_call.new.self { signed = c.end_call.new.self.signed ++ bodies_in es }) c.as_slice.ensures in
-    subst (λ (y : HostState). CallsRunning s ots tree Leaves place spent place.current y c.keep_bodies.new.self old.sent new.sent new.events) c.self.view_is
-    (called-so s g ots tree Leaves place spent x c.end_call.new.self c.keep_bodies.new.self c.in-Some.node c.leave-called.new.self c.leave-called.new.disk old new c.leave-called.result c.end_call.result
-    w (subst (HoldsHost s ots tree place spent) (sym c.self.view_is) h) runs c.new-events.ensures
+    subst (λ (y : HostState). CallsRunning s kinds Leaves place spent place.current y c.keep_bodies.new.self old.sent new.sent new.events) c.self.view_is
+    (called-so s g kinds Leaves place spent x c.end_call.new.self c.keep_bodies.new.self c.in-Some.node c.leave-called.new.self c.leave-called.new.disk old new c.leave-called.result c.end_call.result
+    w (subst (HoldsHost s kinds place spent) (sym c.self.view_is) h) runs c.new-events.ensures
     (λ n is going. c.leave-called.ensures.follows (setting_of s inside.member) n inside.disk is going refl) c.leave-called.ensures.ended c.leave-called.ensures.closed ends fine kept)
