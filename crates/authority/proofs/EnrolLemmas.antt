@@ -8,8 +8,6 @@ use Rattle.epoch_store.specs.declared.Stored.{Stored}
 use Rattle.epoch_store.specs.Store.{IsSettled}
 use Rattle.ff_ids.specs.declared.Group.{Group}
 use Rattle.line_text.specs.declared.bad_word.BadWord.{BadWord}
-use Rattle.lms_tree.specs.Leaves.{index_count}
-use Rattle.lms_tree.specs.declared.secret.Secret.{Secret}
 use Rattle.play.specs.Plays.{IoState}
 use Rattle.play.specs.declared.stop.Stop.{Stop}
 use Rattle.play.specs.declared.stop.Stop.TheVariants as stop
@@ -20,6 +18,7 @@ use Rattle.records.specs.declared.Body.TheVariants.{Certificate}
 use Rattle.records.specs.declared.CertBody.{CertBody}
 use Rattle.schedule_texts.specs.declared.line.RosterLine.{RosterLine}
 use Rattle.schedule_texts.specs.declared.roster.RosterText.TheVariants as roster
+use Rattle.sign_keys.specs.Keys.{KeySecret, index_count}
 use Rattle.signer.specs.Lives.{EndsLives, EndsNow, EndsWithin, IsLiving, LivesOn, Spent, spent_by}
 use Rattle.signer.specs.Signing.{SignerState}
 use Rattle.signer.proofs.LivingLemmas.{begins_life, kept_by_opening}
@@ -89,7 +88,7 @@ end-found a n gone = sym (max-eq_left (omega (arith, gone)))
 
 -- ## The lines, as far as there are leaves
 
-within-all : (g : Group) (k : Secret) (i : ℕ) (certs : List CertBody) → i + length certs ≤ index_count k → lines_within g k i certs ≡ signed_lines g k i certs
+within-all : (g : Group) (k : KeySecret) (i : ℕ) (certs : List CertBody) → i + length certs ≤ index_count k → lines_within g k i certs ≡ signed_lines g k i certs
 within-all g k i [] few = refl
 within-all g k i (c ∷ certs) few =
     let has : ltb i (index_count k) ≡ true = lt-ltb i (index_count k) (omega arith) in
@@ -98,10 +97,10 @@ within-all g k i (c ∷ certs) few =
 no-leaf : (i n : ℕ) → n ≤ i → ltb i n ≡ false
 no-leaf i n h = grind (arith, nat_tests)
 
-within-end : (g : Group) (k : Secret) (i : ℕ) (c : CertBody) (rest : List CertBody) → index_count k ≤ i → lines_within g k i (c ∷ rest) ≡ []
+within-end : (g : Group) (k : KeySecret) (i : ℕ) (c : CertBody) (rest : List CertBody) → index_count k ≤ i → lines_within g k i (c ∷ rest) ≡ []
 within-end g k i c rest gone = rw (no-leaf i (index_count k) gone) refl
 
-within-stop : (g : Group) (k : Secret) (i : ℕ) (done : List CertBody) (c : CertBody) (rest : List CertBody) → i + length done ≡ index_count k → lines_within g k i (done ++ c ∷ rest) ≡ signed_lines g k i done
+within-stop : (g : Group) (k : KeySecret) (i : ℕ) (done : List CertBody) (c : CertBody) (rest : List CertBody) → i + length done ≡ index_count k → lines_within g k i (done ++ c ∷ rest) ≡ signed_lines g k i done
 within-stop g k i [] c rest gone = within-end g k i c rest (omega (arith, gone))
 within-stop g k i (x ∷ done) c rest gone =
     let has : ltb i (index_count k) ≡ true = lt-ltb i (index_count k) (omega (arith, gone)) in

@@ -1,19 +1,20 @@
 -- A text that moves a store, and that is whole, sets something up.
-use Rattle.std.proofs.Common.{◌≡◌, ℕ, List, ◌∷◌, Some, None, Ok, refl, sym, subst, ◌∙◌}
+use Rattle.std.proofs.Common.{◌≡◌, ℕ, true, List, ◌∷◌, Some, None, Ok, refl, sym, subst, ◌∙◌}
 use Rattle.line_text.specs.Answers.{Progress, moved}
 use Rattle.line_text.proofs.ShapeLemmas.{all-in_range}
 use Rattle.ff_ids.specs.declared.Group.{Group}
-use Rattle.schedule_texts.specs.declared.line.Kinds.{Kinds}
 use Rattle.schedule_texts.specs.declared.line.SecretLine.{SecretLine}
 use Rattle.schedule_texts.specs.declared.line.SecretLine.TheVariants as told
 use Rattle.schedule_texts.specs.declared.migrate.MigrateText.{MigrateText}
 use Rattle.schedule_texts.specs.declared.migrate.MigrateText.TheVariants as migrate
 use Rattle.schedule_texts.specs.declared.secret.SecretText.TheVariants as secret
 use Rattle.schedule_texts.specs.MigrateGrammar.{IsMigrate}
-use Rattle.schedule_texts.specs.MigrateLaws.{IsAnother, group-whole, migrate-spelled}
+use Rattle.schedule_texts.specs.MigrateLaws.{IsAnother, group-whole, migrate-kinds, migrate-spelled}
 use Rattle.schedule_texts.specs.Shared.{IsGroup, group_shape, group_values}
 use Rattle.schedule_texts.proofs.FieldLemmas.{group-is}
 use Rattle.play.specs.Plays.{IoState}
+use Rattle.sign_keys.specs.declared.kinds.Kinds.{Kinds}
+use Rattle.sign_keys.specs.Kinds.{is_in_profile}
 use Rattle.whole_text.specs.Gathered.{IsWhole, lines_from, unread}
 use Rattle.whole_text.proofs.GatherLemmas.{line-is}
 use Rattle.whole_text.proofs.ShapeLemmas.{IsNext, next-line}
@@ -27,6 +28,7 @@ pub record SetsUp (lines : List SecretLine) : Type 0 where
   pub left : IsGroup moving.from
   pub group : IsGroup moving.setting.group
   pub another : IsAnother moving.from moving.setting.group
+  pub kinds : is_in_profile moving.setting.kinds ≡ true
 
 -- a line that stands here
 abbrev At : MigrateText → SecretLine → Type 0
@@ -41,21 +43,22 @@ record AreGroups (from g : Group) : Type 0 where
   group : IsGroup g
   another : IsAnother from g
 
-behind-kinds : (from g : Group) (k : Kinds) (l : SecretLine) (more : List SecretLine) → AreGroups from g → At (migrate.Moved secret.Kinded) l → SetsUp (told.Header ∷ told.Group from ∷ told.Group g ∷ told.Kinds k ∷ l ∷ more)
-behind-kinds from g k (told.Secret s) more are is = record {
+behind-kinds : (from g : Group) (k : Kinds) (l : SecretLine) (more : List SecretLine) → AreGroups from g → is_in_profile k ≡ true → At (migrate.Moved secret.Kinded) l → SetsUp (told.Header ∷ told.Group from ∷ told.Group g ∷ told.Kinds k ∷ l ∷ more)
+behind-kinds from g k (told.Secret s) more are kinds is = record {
   moving = record { from = from; setting = record { group = g; kinds = k; secret = s } };
   is = refl;
   left = are.left;
   group = are.group;
   another = are.another;
+  kinds = kinds;
 }
-behind-kinds from g k _ more are is = absurd (let e = is.1.stands in cc)
+behind-kinds from g k _ more are kinds is = absurd (let e = is.1.stands in cc)
 
 behind-second : (from g : Group) (l : SecretLine) (rest : List (List ℕ)) (more : List SecretLine) → AreGroups from g → At (migrate.Moved secret.Grouped) l
     → lines_from migrate_judging (moved migrate_judging.after (record { number = 4; form = migrate.Moved secret.Grouped }) l) rest ≡ Ok more → SetsUp (told.Header ∷ told.Group from ∷ told.Group g ∷ l ∷ more)
 behind-second from g (told.Kinds k) rest more are is later =
     let n = next-line migrate_judging (record { number = 5; form = migrate.Moved secret.Kinded }) rest more later refl in
-    subst (λ ls. SetsUp (told.Header ∷ told.Group from ∷ told.Group g ∷ told.Kinds k ∷ ls)) (sym n.lines_are) (behind-kinds from g k n.line n.more are (at _ _ _ n))
+    subst (λ ls. SetsUp (told.Header ∷ told.Group from ∷ told.Group g ∷ told.Kinds k ∷ ls)) (sym n.lines_are) (behind-kinds from g k n.line n.more are (migrate-kinds (migrate.Moved secret.Grouped) is.0 k is.1) (at _ _ _ n))
 behind-second from g _ rest more are is later = absurd (let e = is.1.stands in cc)
 
 behind-first : (from : Group) (l : SecretLine) (rest : List (List ℕ)) (more : List SecretLine) → IsGroup from → At (migrate.Left from) l
@@ -99,6 +102,7 @@ migration-read was now lines m whole is =
       left = subst (λ x. IsGroup x.from) same up.left;
       group = subst (λ x. IsGroup x.setting.group) same up.group;
       another = subst (λ x. IsAnother x.from x.setting.group) same up.another;
+      kinds = subst (λ x. is_in_profile x.setting.kinds ≡ true) same up.kinds;
     }
 
 pub never-unset : (was now : IoState) (lines : List SecretLine) → IsWhole migrate_judging migrate.Start was now lines → migrate_setting lines ≡ None → ⊥

@@ -3,16 +3,16 @@ use Rattle.std.proofs.Common.{◌≡◌, ℕ, List, ◌∷◌, Some, None, Ok, r
 use Rattle.line_text.specs.Answers.{Progress, moved}
 use Rattle.line_text.proofs.ShapeLemmas.{all-in_range}
 use Rattle.ff_ids.specs.declared.Group.{Group}
-use Rattle.schedule_texts.specs.declared.line.Kinds.{Kinds}
 use Rattle.schedule_texts.specs.declared.line.RosterLine.{RosterLine}
 use Rattle.schedule_texts.specs.declared.line.RosterLine.TheVariants as asked
 use Rattle.schedule_texts.specs.declared.roster.RosterText.{RosterText}
 use Rattle.schedule_texts.specs.declared.roster.RosterText.TheVariants as roster
 use Rattle.schedule_texts.specs.RosterGrammar.{IsRoster}
-use Rattle.schedule_texts.specs.RosterLaws.{roster-spelled}
+use Rattle.schedule_texts.specs.RosterLaws.{roster-kinds, roster-spelled}
 use Rattle.schedule_texts.specs.Shared.{IsGroup, group_shape, group_values}
 use Rattle.schedule_texts.proofs.FieldLemmas.{group-is}
 use Rattle.play.specs.Plays.{IoState}
+use Rattle.sign_keys.specs.declared.kinds.Kinds.{Kinds}
 use Rattle.whole_text.specs.Gathered.{IsWhole, lines_from, unread}
 use Rattle.whole_text.proofs.GatherLemmas.{line-is}
 use Rattle.whole_text.proofs.ShapeLemmas.{IsNext, each-line, next-line}
@@ -26,6 +26,7 @@ pub record SetsUp (lines : List RosterLine) : Type 0 where
   pub setting : Setting
   pub is : roster_setting lines ≡ Some setting
   pub group : IsGroup setting.group
+  pub one : setting.kinds.bottom ≡ None
 
 -- a line that stands here
 abbrev At : RosterText → RosterLine → Type 0
@@ -34,14 +35,14 @@ At form l = (ws : List (List ℕ)) × IsRoster form ws l
 at : (p : Progress RosterText) (seen : List (List ℕ)) (lines : List RosterLine) (n : IsNext roster_judging p seen lines) → At p.form n.line
 at p seen lines n = let h = line-is roster_judging IsRoster roster-spelled p n.bytes n.line n.is in (h.first ∷ h.others, h.spells)
 
-behind-kinds : (g : Group) (k : Kinds) (l : RosterLine) (more : List RosterLine) → IsGroup g → At roster.Kinded l → SetsUp (asked.Header ∷ asked.Group g ∷ asked.Kinds k ∷ l ∷ more)
-behind-kinds g k (asked.Secret s) more group is = record { setting = record { group = g; kinds = k; secret = s }; is = refl; group = group }
-behind-kinds g k _ more group is = absurd (let e = is.1.stands in cc)
+behind-kinds : (g : Group) (k : Kinds) (l : RosterLine) (more : List RosterLine) → IsGroup g → k.bottom ≡ None → At roster.Kinded l → SetsUp (asked.Header ∷ asked.Group g ∷ asked.Kinds k ∷ l ∷ more)
+behind-kinds g k (asked.Secret s) more group one is = record { setting = record { group = g; kinds = k; secret = s }; is = refl; group = group; one = one }
+behind-kinds g k _ more group one is = absurd (let e = is.1.stands in cc)
 
 behind-group : (g : Group) (l : RosterLine) (rest : List (List ℕ)) (more : List RosterLine) → IsGroup g → At roster.Grouped l → lines_from roster_judging (moved roster_judging.after (record { number = 3; form = roster.Grouped }) l) rest ≡ Ok more → SetsUp (asked.Header ∷ asked.Group g ∷ l ∷ more)
 behind-group g (asked.Kinds k) rest more group is later =
     let n = next-line roster_judging (record { number = 4; form = roster.Kinded }) rest more later refl in
-    subst (λ ls. SetsUp (asked.Header ∷ asked.Group g ∷ asked.Kinds k ∷ ls)) (sym n.lines_are) (behind-kinds g k n.line n.more group (at _ _ _ n))
+    subst (λ ls. SetsUp (asked.Header ∷ asked.Group g ∷ asked.Kinds k ∷ ls)) (sym n.lines_are) (behind-kinds g k n.line n.more group (roster-kinds roster.Grouped is.0 k is.1) (at _ _ _ n))
 behind-group g _ rest more group is later = absurd (let e = is.1.stands in cc)
 
 behind-header : (l : RosterLine) (rest : List (List ℕ)) (more : List RosterLine) → At roster.Headed l → lines_from roster_judging (moved roster_judging.after (record { number = 2; form = roster.Headed }) l) rest ≡ Ok more → SetsUp (asked.Header ∷ l ∷ more)
@@ -73,7 +74,7 @@ roster-read was now lines s whole is =
     let up = sets-up whole.seen_lines lines whole.are in
     let one : Some up.setting ≡ Some s = sym up.is ∙ is in
     let same : up.setting ≡ s = cc in
-    record { whole = whole; setting = is; group = subst (λ x. IsGroup x.group) same up.group; ports = have-ports whole.seen_lines lines whole.are }
+    record { whole = whole; setting = is; group = subst (λ x. IsGroup x.group) same up.group; one = subst (λ x. x.kinds.bottom ≡ None) same up.one; ports = have-ports whole.seen_lines lines whole.are }
 
 pub never-unset : (was now : IoState) (lines : List RosterLine) → IsWhole roster_judging roster.Start was now lines → roster_setting lines ≡ None → ⊥
 never-unset was now lines whole is =

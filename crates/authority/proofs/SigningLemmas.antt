@@ -9,7 +9,6 @@ use Rattle.epoch_store.specs.Asked.{put_calls}
 use Rattle.epoch_store.specs.Store.{IsSettled}
 use Rattle.epoch_store.proofs.CallLemmas.{with_calls-append}
 use Rattle.ff_ids.specs.declared.Mask.{Mask}
-use Rattle.lms_tree.specs.Leaves.{index_count}
 use Rattle.play.specs.Plays.{IoState}
 use Rattle.ports.specs.Disk.{Moment}
 use Rattle.ports.specs.DiskCalls.{AsFarAs, with_calls}
@@ -18,6 +17,7 @@ use Rattle.records.specs.declared.CertBody.{CertBody}
 use Rattle.records.specs.Signing.{CheckedRecord}
 use Rattle.schedule_texts.specs.declared.line.RosterLine.{RosterLine}
 use Rattle.schedule_texts.specs.declared.line.RosterLine.TheVariants as asked
+use Rattle.sign_keys.specs.Keys.{index_count}
 use Rattle.signer.specs.declared.SignFault.{SignFault}
 use Rattle.signer.specs.declared.SignFault.TheVariants as fault
 use Rattle.signer.specs.Lives.{LivesOn, Spent, spent_by}

@@ -7,7 +7,6 @@ use Rattle.epoch_store.specs.Asked.{ReadsGates, ReadsUpTo, StopsReading, open_ca
 use Rattle.epoch_store.specs.Calls.{HoldsStore, OpensAs, SettlesAs, same}
 use Rattle.epoch_store.specs.Store.{IsSettled}
 use Rattle.line_text.specs.declared.bad_word.BadWord.{BadWord}
-use Rattle.lms_tree.specs.Leaves.{index_count}
 use Rattle.play.specs.Plays.{IoState}
 use Rattle.play.specs.declared.stop.Stop.{Stop}
 use Rattle.play.specs.declared.stop.Stop.TheVariants as stop
@@ -18,6 +17,7 @@ use Rattle.records.specs.declared.Body.TheVariants.{Certificate}
 use Rattle.records.specs.declared.CertBody.{CertBody}
 use Rattle.schedule_texts.specs.declared.line.RosterLine.{RosterLine}
 use Rattle.schedule_texts.specs.declared.roster.RosterText.TheVariants as roster
+use Rattle.sign_keys.specs.Keys.{IsNew, index_count}
 use Rattle.signer.specs.Lives.{EndsNow, EndsWithin, Spent, spent_by}
 use Rattle.whole_text.specs.Gathered.{IsUnfinished}
 use Rattle.authority.specs.declared.halt.Halt.{Halt}
@@ -65,10 +65,9 @@ pub record IsUnopened (name : List ℕ) (old new : OfDisk) : Type 0 where
   pub calls : AsFarAs (ToOpen name ∷ []) old.calls new.calls
   pub moments : Fails stays old.moments new.moments
 
--- the key with its leaves, and the store
+-- the key, of which no index was handed out, and the store
 pub record HasOpened (name : List ℕ) (s : Setting) (p : Opened) (old new : OfDisk) : Type 0 where
-  pub tree : p.tree ≡ key_of s
-  pub leaves : p.leaves ≡ record { key = key_of s; next = 0 }
+  pub key : IsNew p.key (key_of s)
   pub going : p.store.failed ≡ false
   pub opened : IsOpened name s p.store.state p.store.seat old new
 

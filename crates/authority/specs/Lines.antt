@@ -3,13 +3,12 @@ use Rattle.std.specs.Prelude.{ℕ, ◌+◌, nat_lt, if◌then◌else◌, List, [
 use Rattle.hex.specs.Hex.{encode_lower}
 use Rattle.ff_ids.specs.declared.Group.{Group}
 use Rattle.line_text.specs.declared.bad_word.BadWord.{BadWord}
-use Rattle.lms_tree.specs.Leaves.{index_count}
 use Rattle.records.specs.Keys.{key_bytes}
-use Rattle.lms_tree.specs.declared.secret.Secret.{Secret}
 use Rattle.records.specs.declared.Body.TheVariants.{Certificate}
 use Rattle.records.specs.declared.CertBody.{CertBody}
 use Rattle.schedule_texts.specs.declared.line.RosterLine.{RosterLine}
 use Rattle.schedule_texts.specs.declared.roster.RosterText.TheVariants as roster
+use Rattle.sign_keys.specs.Keys.{KeySecret, index_count}
 use Rattle.signer.specs.Signing.{signed_by}
 use Rattle.text_trace.specs.Trace.{Continuation}
 use Rattle.whole_text.specs.Gathered.{owed_whole}
@@ -22,16 +21,16 @@ cert_line c signature =
     codes "cert " ++ decimal c.member ++ codes " " ++ decimal c.port ++ codes " " ++ encode_lower (key_bytes c.key) ++ codes " " ++ encode_lower signature ++ 10 ∷ []
 
 -- the line of a certificate that is signed with the leaf of this index
-unfoldable pub signed_line : Group → Secret → ℕ → CertBody → List ℕ
+unfoldable pub signed_line : Group → KeySecret → ℕ → CertBody → List ℕ
 signed_line group key index c = cert_line c (signed_by group key index (Certificate c)).rec.signature
 
 -- the lines of these certificates, each signed with the index behind the one before
-abbrev pub signed_lines : Group → Secret → ℕ → List CertBody → List ℕ
+abbrev pub signed_lines : Group → KeySecret → ℕ → List CertBody → List ℕ
 signed_lines group key index [] = []
 signed_lines group key index (c ∷ certs) = signed_line group key index c ++ signed_lines group key (index + 1) certs
 
 -- the same, as far as the key has indexes
-abbrev pub lines_within : Group → Secret → ℕ → List CertBody → List ℕ
+abbrev pub lines_within : Group → KeySecret → ℕ → List CertBody → List ℕ
 lines_within group key index [] = []
 lines_within group key index (c ∷ certs) =
     if nat_lt index (index_count key) then signed_line group key index c ++ lines_within group key (index + 1) certs else []

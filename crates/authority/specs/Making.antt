@@ -4,8 +4,6 @@ use Rattle.std.specs.Prelude.{◌≡◌, ℕ, ◌⊎◌, List, [], ◌∷◌, �
 use Rattle.hex.specs.Hex.{encode_lower}
 use Rattle.ff_ids.specs.Masks.{all_rings}
 use Rattle.line_text.specs.declared.bad_word.BadWord.{BadWord}
-use Rattle.lms_tree.specs.Lms.{key_bytes, public_of}
-use Rattle.lms_tree.specs.declared.key.PublicKey.{PublicKey}
 use Rattle.epoch_store.specs.declared.Stored.{Stored}
 use Rattle.epoch_store.specs.Asked.{make_calls}
 use Rattle.epoch_store.specs.Calls.{HasLength, SettlesAs}
@@ -17,8 +15,11 @@ use Rattle.play.specs.declared.stop.Stop.TheVariants as stop
 use Rattle.ports.specs.Count.{next_count}
 use Rattle.ports.specs.Disk.{Fails, torn_at}
 use Rattle.ports.specs.DiskCalls.{AsFarAs, ToMeasure, ToOpen, with_calls}
+use Rattle.records.specs.declared.keys.Key.{Key}
+use Rattle.records.specs.Keys.{key_bytes}
 use Rattle.schedule_texts.specs.declared.line.SecretLine.{SecretLine}
 use Rattle.schedule_texts.specs.declared.secret.SecretText.TheVariants as secret
+use Rattle.sign_keys.specs.Keys.{public_key}
 use Rattle.text_trace.specs.Trace.{Continuation}
 use Rattle.whole_text.specs.Gathered.{IsUnfinished, owed_whole}
 use Rattle.authority.specs.declared.halt.Halt.{Halt}
@@ -33,12 +34,12 @@ use Rattle.authority.specs.declared.making.Prepared.{Prepared}
 -- ## What is owed
 
 -- the line that gives a key
-abbrev pub key_line : PublicKey → List ℕ
+abbrev pub key_line : Key → List ℕ
 key_line key = codes "key " ++ encode_lower (key_bytes key) ++ 10 ∷ []
 
 -- the line of the setting's key
 abbrev pub key_line_of : Setting → List ℕ
-key_line_of s = key_line (public_of (key_of s))
+key_line_of s = key_line (public_key (key_of s))
 
 abbrev pub told_at_end : List SecretLine → List ℕ
 told_at_end lines = told_for (secret_setting lines) key_line_of

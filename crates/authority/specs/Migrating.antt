@@ -9,7 +9,6 @@ use Rattle.epoch_store.specs.Seat.{behind}
 use Rattle.epoch_store.specs.Store.{IsSettled, LeavesOneOf, LeavesState, entry_with, migrated}
 use Rattle.ff_ids.specs.Masks.{all_rings}
 use Rattle.line_text.specs.declared.bad_word.BadWord.{BadWord}
-use Rattle.lms_tree.specs.Leaves.{index_count}
 use Rattle.play.specs.Plays.{IoState}
 use Rattle.play.specs.declared.stop.Stop.{Stop}
 use Rattle.play.specs.declared.stop.Stop.TheVariants as stop
@@ -19,6 +18,7 @@ use Rattle.ports.specs.DiskCalls.{AsFarAs, DiskCall, with_calls}
 use Rattle.ports.specs.Outside.{OfDisk}
 use Rattle.schedule_texts.specs.declared.line.SecretLine.{SecretLine}
 use Rattle.schedule_texts.specs.declared.migrate.MigrateText.TheVariants as migrate
+use Rattle.sign_keys.specs.Keys.{index_count}
 use Rattle.signer.specs.Lives.{MovedLives, MovesLives}
 use Rattle.text_trace.specs.Trace.{Continuation}
 use Rattle.whole_text.specs.Gathered.{IsUnfinished, owed_whole}

@@ -1,5 +1,5 @@
 -- What the lines of a text that moves a store set up, and that it was read.
-use Rattle.std.specs.Prelude.{◌≡◌, List, Option, Some, None}
+use Rattle.std.specs.Prelude.{◌≡◌, true, List, Option, Some, None}
 use Rattle.std.specs.List.{slice_get}
 use Rattle.play.specs.Plays.{IoState}
 use Rattle.schedule_texts.specs.declared.line.SecretLine.{SecretLine}
@@ -10,6 +10,7 @@ use Rattle.schedule_texts.specs.MigrateGrammar as grammar
 use Rattle.schedule_texts.specs.MigrateLaws.{IsAnother}
 use Rattle.schedule_texts.specs.MigrateRows as rows
 use Rattle.schedule_texts.specs.Shared.{IsGroup}
+use Rattle.sign_keys.specs.Kinds.{is_in_profile}
 use Rattle.whole_text.specs.Gathered.{IsWhole, Judging}
 use Rattle.authority.specs.declared.moving.Moving.{Moving}
 use Rattle.authority.specs.declared.setting.Setting.{Setting}
@@ -32,7 +33,7 @@ abbrev pub left_setting : Moving → Setting
 left_setting m = record { group = m.from; kinds = m.setting.kinds; secret = m.setting.secret }
 
 -- A whole text that moves a store was read, this is what it sets up, and nothing was written. The groups differ in tolerance or
--- in tag.
+-- in tag, and there are keys of its kinds.
 pub record IsMigration (was now : IoState) (m : Moving) : Type 0 where
   pub lines : List SecretLine
   pub whole : IsWhole migrate_judging migrate.Start was now lines
@@ -40,3 +41,4 @@ pub record IsMigration (was now : IoState) (m : Moving) : Type 0 where
   pub left : IsGroup m.from
   pub group : IsGroup m.setting.group
   pub another : IsAnother m.from m.setting.group
+  pub kinds : is_in_profile m.setting.kinds ≡ true

@@ -1,8 +1,6 @@
 -- What the lines of an authority's texts set up, and what follows from that: the key and the mark of its store.
 use Rattle.std.specs.Prelude.{ℕ, List, [], ◌∷◌, Option, Some, None}
 use Rattle.std.specs.List.{slice_get}
-use Rattle.lms_tree.specs.Lms.{public_of}
-use Rattle.lms_tree.specs.declared.secret.Secret.{Secret}
 use Rattle.records.specs.declared.CertBody.{CertBody}
 use Rattle.schedule_texts.specs.declared.line.RosterLine.{RosterLine}
 use Rattle.schedule_texts.specs.declared.line.RosterLine.TheVariants as asked
@@ -15,16 +13,17 @@ use Rattle.schedule_texts.specs.RosterRows as roster_rows
 use Rattle.schedule_texts.specs.SecretGrammar as secret
 use Rattle.schedule_texts.specs.SecretRows as secret_rows
 use Rattle.secrets.specs.Secrets.{key_from, store_tag}
+use Rattle.sign_keys.specs.Keys.{KeySecret}
 use Rattle.whole_text.specs.Gathered.{Judging}
 use Rattle.authority.specs.declared.setting.Setting.{Setting}
 
 -- the key of a setting
-abbrev pub key_of : Setting → Secret
-key_of s = key_from s.kinds.ots s.kinds.tree s.secret
+abbrev pub key_of : Setting → KeySecret
+key_of s = key_from s.kinds s.secret
 
 -- the mark of its store
 abbrev pub tag_of : Setting → List ℕ
-tag_of s = store_tag s.group (public_of (key_of s))
+tag_of s = store_tag s.group (key_of s)
 
 -- how the lines of a secret's text are judged
 abbrev pub secret_judging : Judging SecretText SecretLine

@@ -5,7 +5,6 @@ use Rattle.epoch_store.specs.declared.seat.Seat.{Seat}
 use Rattle.epoch_store.specs.Seat.{next_seat}
 use Rattle.epoch_store.specs.Asked.{put_calls}
 use Rattle.epoch_store.specs.Store.{IsSettled}
-use Rattle.lms_tree.specs.Leaves.{index_count}
 use Rattle.play.specs.Plays.{IoState}
 use Rattle.ports.specs.Count.{next_count}
 use Rattle.ports.specs.DiskCalls.{AsFarAs, DiskCall, with_calls}
@@ -13,6 +12,7 @@ use Rattle.records.specs.declared.Body.TheVariants.{Certificate}
 use Rattle.records.specs.declared.CertBody.{CertBody}
 use Rattle.schedule_texts.specs.declared.line.RosterLine.{RosterLine}
 use Rattle.schedule_texts.specs.declared.line.RosterLine.TheVariants as asked
+use Rattle.sign_keys.specs.Keys.{index_count}
 use Rattle.signer.specs.declared.SignFault.{SignFault}
 use Rattle.signer.specs.declared.SignFault.TheVariants as fault
 use Rattle.signer.specs.Lives.{LivesOn, spent_by}

@@ -6,23 +6,22 @@ ghost use Rattle.authority.specs.Telling.{is_writable};
 ghost use Rattle.authority.specs.Texts.{HavePorts};
 ghost use Rattle.play.specs.Plays.{io};
 ghost use Rattle.ports.specs.Outside.{OfSource};
+ghost use Rattle.sign_keys.specs.Kinds.{is_in_profile};
 ghost use Rattle.authority.specs.Enrolling.{Enrols, EnrolsBehind, OpensStore};
 
 use crate::signing::sign_all;
 use crate::{Asked, Halt, Setting, read_roster};
 use epoch_store::Store;
 use fields::NoMemory;
-use lms_tree::{Leaves, Tree};
 use ports::{Disk, Sink, Source};
 use schedule_texts::RosterLine;
-use signer::Signer;
+use signer::{SignKey, Signer};
 use std::alloc::Global;
 
 /// A key that was made anew, and its store.
 #[derive(Drop)]
 pub(crate) struct Opened {
-    pub(crate) tree: Tree,
-    pub(crate) leaves: Leaves,
+    pub(crate) key: SignKey,
     pub(crate) store: Store,
 }
 
@@ -33,19 +32,16 @@ pub(crate) fn open_store<D: Disk>(
     setting: &Setting,
     disk: &mut D,
 ) -> Result<Opened, Halt>
+    requires { is_in_profile setting.now.kinds ≡ true }
     ensures opens { OpensStore name.now setting.now
         (D.state disk.old) (D.state disk.new) result }
 {
-    let (tree, leaves) = match setting.make_key(alloc) {
-        Ok(key) => key.split(),
+    let key = match setting.make_key(alloc) {
+        Ok(key) => key,
         Err(NoMemory) => return Err(Halt::OutOfMemory),
     };
-    match Store::open(disk, name, &setting.store_tag(&tree.public())) {
-        Ok(store) => Ok(Opened {
-            tree,
-            leaves,
-            store,
-        }),
+    match Store::open(disk, name, &setting.store_tag(&key)) {
+        Ok(store) => Ok(Opened { key, store }),
         Err(error) => Err(Halt::from(error)),
     }
 }
@@ -71,6 +67,7 @@ fn open_and_sign<O: Sink, D: Disk>(
     out: &mut O,
     disk: &mut D,
 ) -> Result<(), Halt>
+    requires profile { is_in_profile setting.now.kinds ≡ true }
     requires ports { HavePorts lines.items }
     requires sink { (O.state out.old).is_open ≡ true }
     ensures sink { (O.state out.new).is_open ≡ is_writable result }
@@ -79,22 +76,18 @@ fn open_and_sign<O: Sink, D: Disk>(
         (io source (O.state out.new))
         (D.state disk.old) (D.state disk.new) result }
 {
-    let Opened {
-        tree,
-        leaves,
-        store,
-    } = match open_store(alloc, name, setting, disk) {
+    let Opened { key, store } = match open_store(alloc, name, setting, disk) {
         Ok(opened) => opened,
         Err(halt) => return Err(halt),
     };
     let next = store.state().next;
-    if next > tree.index_count() {
+    if next > key.index_count() {
         if is_asked(lines) {
             return Err(Halt::Exhausted { next });
         }
         return Ok(());
     }
-    let mut signer = Signer::open(setting.group, tree, leaves, store);
+    let mut signer = Signer::open(setting.group, key, store);
     sign_all(alloc, &mut signer, lines, out, disk)
 }
 

@@ -1,18 +1,19 @@
 //! From the text of a secret to the store of its key.
 
-ghost use Rattle.std.specs.Prelude.{◌≡◌, ◌≤◌, ◌++◌, ◌∷◌, [], true, IfOk, codes, string_bytes};
+ghost use Rattle.std.specs.Prelude.{◌≡◌, ◌≤◌, true, IfOk, string_bytes};
 ghost use Rattle.ff_ids.specs.declared.TheConstants.{MAX_TOLERANCE};
-ghost use Rattle.hex.specs.Hex.{encode_lower};
 ghost use Rattle.authority.specs.Telling.{is_writable};
 ghost use Rattle.play.specs.Plays.{io};
 ghost use Rattle.ports.specs.Outside.{OfSource};
-ghost use Rattle.authority.specs.Making.{IsPrepared, MakesBehind, Makes};
+ghost use Rattle.sign_keys.specs.Kinds.{is_in_profile};
+ghost use Rattle.authority.specs.Making.{IsPrepared, MakesBehind, Makes, key_line};
 
 use crate::{Halt, Setting, read_secret_text};
 use epoch_store::make;
 use ff_ids::all_rings;
 use fields::NoMemory;
 use ports::{Disk, Failed, Sink, Source, write_all};
+use records::Key;
 use std::alloc::Global;
 
 /// What marks the store of a key, and the line that gives its public half.
@@ -22,21 +23,22 @@ struct Prepared {
     line: String,
 }
 
-/// The line that gives these bytes of a key.
-fn key_line(alloc: Global, key: &[u8; 56]) -> Result<String, NoMemory>
-    ensures { IfOk result
-        (λ line. string_bytes line ≡ codes "key " ++ encode_lower key.now ++ 10 ∷ []) }
+/// The line that gives a key.
+fn key_line(alloc: Global, key: &Key) -> Result<String, NoMemory>
+    ensures { IfOk result (λ line. string_bytes line ≡ key_line key.now) }
 {
-    let digits = hex::encode(alloc, key.as_slice())?;
+    let bytes = key.write();
+    let digits = hex::encode(alloc, bytes.as_slice())?;
     Ok(format!(in alloc; "key {digits}\n")?)
 }
 
 /// The mark of the store of the setting's key, and the key's line.
 fn prepare(alloc: Global, setting: &Setting) -> Result<Prepared, NoMemory>
+    requires { is_in_profile setting.now.kinds ≡ true }
     ensures { IfOk result (λ prepared. IsPrepared setting.now prepared) }
 {
-    let key = setting.make_key(alloc)?.public();
-    let line = key_line(alloc, &key.write())?;
+    let key = setting.make_key(alloc)?;
+    let line = key_line(alloc, &key.public())?;
     Ok(Prepared {
         tag: setting.store_tag(&key),
         line,

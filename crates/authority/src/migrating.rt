@@ -4,6 +4,7 @@ ghost use Rattle.std.specs.Prelude.{◌≡◌, ◌<◌, ◌≤◌, ◌++◌, ◌
 ghost use Rattle.ff_ids.specs.declared.TheConstants.{MAX_TOLERANCE};
 ghost use Rattle.play.specs.Plays.{io};
 ghost use Rattle.ports.specs.Outside.{OfSource};
+ghost use Rattle.sign_keys.specs.Kinds.{is_in_profile};
 ghost use Rattle.authority.specs.Migrating.{Migrates, MigratesBehind, MovesOpened, new_tag};
 ghost use Rattle.authority.specs.Telling.{is_writable};
 
@@ -67,6 +68,7 @@ fn open_and_move<O: Sink, D: Disk>(
     disk: &mut D,
 ) -> Result<(), Halt>
     requires tolerance { moving.now.setting.group.t ≤ MAX_TOLERANCE }
+    requires profile { is_in_profile moving.now.setting.kinds ≡ true }
     requires sink { (O.state out.old).is_open ≡ true }
     ensures sink { (O.state out.new).is_open ≡ is_writable result }
     ensures migrates { (source : OfSource) → MigratesBehind name.now moving.now
@@ -74,15 +76,15 @@ fn open_and_move<O: Sink, D: Disk>(
         (io source (O.state out.new))
         (D.state disk.old) (D.state disk.new) result }
 {
-    let Opened { tree, store, .. } = match open_store(alloc, name, &moving.left(), disk) {
+    let Opened { key, store } = match open_store(alloc, name, &moving.left(), disk) {
         Ok(opened) => opened,
         Err(halt) => return Err(halt),
     };
     let next = store.state().next;
-    if next >= tree.index_count() {
+    if next >= key.index_count() {
         return Err(Halt::Exhausted { next });
     }
-    let tag = moving.setting.store_tag(&tree.public());
+    let tag = moving.setting.store_tag(&key);
     move_and_tell(alloc, moving, &tag, store, out, disk)
 }
 

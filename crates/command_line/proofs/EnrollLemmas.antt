@@ -5,8 +5,7 @@ use Rattle.std.specs.Io.KnownBytes.{Appends}
 use Rattle.std.proofs.Math.Nat.{le-max_right}
 use Rattle.std.proofs.KnownBytes.{Appends-nil, Appends-trans}
 use Rattle.secrets.proofs.StoreTags.{length-store_tag}
-use Rattle.lms_tree.specs.Leaves.{index_count}
-use Rattle.lms_tree.specs.Lms.{public_of}
+use Rattle.sign_keys.specs.Keys.{index_count}
 use Rattle.ports.specs.Count.{next_count}
 use Rattle.ports.specs.Disk.{Moment}
 use Rattle.epoch_store.specs.declared.seat.Seat.{Seat}
@@ -197,7 +196,7 @@ enroll-disk name was mid now old new (Err halt.OutOfMemory) s h t =
 -- ## Where it is whole
 
 pub tag-long : (s : Setting) → length (tag_of s) ≡ 32
-tag-long s = length-store_tag s.group (public_of (key_of s))
+tag-long s = length-store_tag s.group (key_of s)
 
 -- the roster that was read is the one that is told
 record IsSame (s : Setting) (lines : List RosterLine) (setting : Setting) (asked : List RosterLine) : Type 0 where

@@ -5,7 +5,7 @@ use Rattle.std.specs.Io.KnownBytes.{Appends}
 use Rattle.std.proofs.Math.Nat.{le-max_right}
 use Rattle.std.proofs.KnownBytes.{Appends-trans}
 use Rattle.std.proofs.lemmas.Bool.Decides.{nat_tests}
-use Rattle.lms_tree.specs.Leaves.{index_count}
+use Rattle.sign_keys.specs.Keys.{index_count}
 use Rattle.ports.specs.Contents.{TookFront}
 use Rattle.ports.specs.Disk.{Fails, stays}
 use Rattle.ports.specs.Outside.{OfDisk}

@@ -4,8 +4,7 @@ use Rattle.std.specs.Prelude.{IfErr, IfSome}
 use Rattle.epoch_store.specs.declared.Stored.{Stored}
 use Rattle.epoch_store.specs.Calls.{HoldsStore, OpensAs}
 use Rattle.epoch_store.specs.Store.{StoreOf}
-use Rattle.lms_tree.specs.Leaves.{index_count}
-use Rattle.lms_tree.specs.Lms.{public_of}
+use Rattle.sign_keys.specs.Keys.{index_count, secret_of}
 use Rattle.line_text.specs.declared.bad_word.BadWord.{BadWord}
 use Rattle.play.specs.Plays.{IoState}
 use Rattle.ports.specs.Count.{Rose}
@@ -20,7 +19,7 @@ use Rattle.node_command.specs.declared.halt.NodeHalt.TheVariants as halt
 use Rattle.node_command.specs.declared.kit.Member.{Member}
 use Rattle.node_command.specs.declared.kit.Own.{Own}
 use Rattle.node_command.specs.Halts.{halt_for}
-use Rattle.node_command.specs.Members.{IsMember, SetUp, SetsUp, kit_judging, set_by, tag_of}
+use Rattle.node_command.specs.Members.{IsMember, SetUp, SetsUp, key_of, kit_judging, set_by, tag_of}
 use Rattle.node_command.specs.Running.{IsCaused, Takes}
 use Rattle.node_command.proofs.RunLemmas.{tag-long}
 use Rattle.command_line.specs.Causes.{Says, status_of_node}
@@ -54,10 +53,10 @@ same-member was between all lines a b left read are sets =
     same-up (set_by lines) a b (subst (λ (ls : List KitLine). SetsUp (set_by ls) a) same read.is) sets
 
 same-tag : (a b : Member) → IsSame a b → tag_of a ≡ tag_of b
-same-tag a b same = ap (λ g. store_tag g (public_of a.own.key)) same.group_is ∙ ap (λ (o : Own). store_tag b.group (public_of o.key)) same.own_is
+same-tag a b same = ap (λ g. store_tag g (key_of a)) same.group_is ∙ ap (λ (o : Own). store_tag b.group (secret_of o.key)) same.own_is
 
 node-opened : (name : List ℕ) (was mid now : IoState) (old new : OfDisk) (r : Answer) (s : Status) (all : List ℕ) (lines : List KitLine) (m : Member) (o : Stored) → was.left ≡ Some all → IsCaused name was old new r → lines_from kit_judging (unread kit.Start) (seen all) ≡ Ok lines
-    → SetsUp (set_by lines) m → OnImage old.moments (λ image. StoreOf (tag_of m) image o) → o.next < index_count m.own.key → IsNodeDone (status_of_node r) → IsNodeWhole (status_of_node r)
+    → SetsUp (set_by lines) m → OnImage old.moments (λ image. StoreOf (tag_of m) image o) → o.next < index_count (key_of m) → IsNodeDone (status_of_node r) → IsNodeWhole (status_of_node r)
 node-opened name was mid now old new (Ok _) s all lines m o left cause are sets there some done = tt
 node-opened name was mid now old new (Err (halt.Refused line w)) s all lines m o left cause are sets there some done = absurd done
 node-opened name was mid now old new (Err halt.ReadFault) s all lines m o left cause are sets there some done = absurd done
@@ -74,7 +73,7 @@ node-opened name was mid now old new (Err (halt.Exhausted next)) s all lines m o
     let u = cause.cause in
     let found : u.stored ≡ o = found-is (tag_of m) old.moments u.stored o u.found.0 (tag-long m) (subst (λ (t : List ℕ). HoldsStore t u.stored u.found.0 old.moments) (same-tag cause.member m same) u.found.1) there in
     let n : u.stored.next ≡ o.next = ap (λ (x : Stored). x.next) found in
-    let count : index_count cause.member.own.key ≡ index_count m.own.key = ap (λ (x : Own). index_count x.key) same.own_is in
+    let count : index_count (key_of cause.member) ≡ index_count (key_of m) = ap (λ (x : Own). index_count (secret_of x.key)) same.own_is in
     absurd (omega (arith, n, count, u.next_is, u.gone, some))
 node-opened name was mid now old new (Err halt.OutOfMemory) s all lines m o left cause are sets there some done = tt
 
@@ -87,7 +86,7 @@ node-answered was now true first line s says counts written done =
 
 node-opens : (name : List ℕ) (left : Option (List ℕ)) (was mid now : IoState) (old new : OfDisk) (r : Answer) (s : Status) → was.left ≡ left → Takes was mid old new r → IfErr r (λ h. h ≡ halt.StoreFault → Rose old.faults new.faults)
     → IsCaused name was old new r → Tells (status_of_node r) mid now s → Counts was now s
-    → IfSome left (λ all. (lines : List KitLine) (m : Member) (o : Stored) → lines_from kit_judging (unread kit.Start) (seen all) ≡ Ok lines → SetsUp (set_by lines) m → OnImage old.moments (λ image. StoreOf (tag_of m) image o) → o.next < index_count m.own.key
+    → IfSome left (λ all. (lines : List KitLine) (m : Member) (o : Stored) → lines_from kit_judging (unread kit.Start) (seen all) ≡ Ok lines → SetsUp (set_by lines) m → OnImage old.moments (λ image. StoreOf (tag_of m) image o) → o.next < index_count (key_of m)
     → NoneFailed was now old new → IsNodeWhole s)
 node-opens name None was mid now old new r s left h store cause t counts = tt
 node-opens name (Some all) was mid now old new r s left h store cause t counts = λ lines m o are sets there some fine.

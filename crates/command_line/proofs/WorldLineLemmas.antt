@@ -55,7 +55,7 @@ by-words l words = subst (λ (t : List ℕ). has_no_feed t ≡ true) (sym (spell
 pub clear-line : (digits : List ℕ) (l : WorldLine) → list_all is_word (spelled_words digits l) ≡ true → has_no_feed (line_text l) ≡ true
 clear-line digits lines.Header words = by-words lines.Header words
 clear-line digits (lines.Group g) words = clear-group g
-clear-line digits (lines.Kinds ots tree) words = by-words (lines.Kinds ots tree) words
+clear-line digits (lines.Kinds ots tree bottom) words = by-words (lines.Kinds ots tree bottom) words
 clear-line digits (lines.Node m) words = by-words (lines.Node m) words
 clear-line digits (lines.Liar m) words = by-words (lines.Liar m) words
 clear-line digits lines.Begin words = by-words lines.Begin words
@@ -121,7 +121,7 @@ whole-line l v clear = record { front = line_text l ++ behind_line v; clear = cl
 begins : (l : WorldLine) (rest : List ℕ) → get_or (line_text l ++ rest) 0 0 ≡ 64 → ⊥
 begins lines.Header rest e = absurd (omega (arith, e))
 begins (lines.Group g) rest e = absurd (omega (arith, e))
-begins (lines.Kinds ots tree) rest e = absurd (omega (arith, e))
+begins (lines.Kinds ots tree bottom) rest e = absurd (omega (arith, e))
 begins (lines.Node m) rest e = absurd (omega (arith, e))
 begins (lines.Liar m) rest e = absurd (omega (arith, e))
 begins lines.Begin rest e = absurd (omega (arith, e))

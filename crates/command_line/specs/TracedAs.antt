@@ -16,7 +16,7 @@ use Rattle.schedule_texts.specs.declared.migrate.MigrateText.TheVariants as migr
 use Rattle.schedule_texts.specs.declared.roster.RosterText.TheVariants as roster
 use Rattle.schedule_texts.specs.declared.kit.KitText.TheVariants as kit
 use Rattle.schedule_texts.specs.declared.kit_line.KitLine.{KitLine}
-use Rattle.lms_tree.specs.Leaves.{index_count}
+use Rattle.sign_keys.specs.Keys.{index_count}
 use Rattle.text_trace.specs.Lines.{seen, text_lines}
 use Rattle.text_trace.specs.Trace.{Continuation}
 use Rattle.world_replay.specs.Causes.{IsJudged}
@@ -161,7 +161,7 @@ NodeEndsWell was now old new s = OnUnrefused was.left (NoneFailed was now old ne
 abbrev pub NodeOpens : IoState → IoState → OfDisk → OfDisk → Status → Type 0
 NodeOpens was now old new s = IfSome was.left (λ all. (lines : List KitLine) (m : Member) (o : Stored)
     → lines_from kit_judging (unread kit.Start) (seen all) ≡ Ok lines → SetsUp (set_by lines) m
-    → OnImage old.moments (λ image. StoreOf (node.tag_of m) image o) → o.next < index_count m.own.key
+    → OnImage old.moments (λ image. StoreOf (node.tag_of m) image o) → o.next < index_count (node.key_of m)
     → NoneFailed was now old new → IsNodeWhole s)
 
 pub record NodeCompletes (was now : IoState) (old new : OfDisk) (s : Status) : Type 0 where

@@ -1,6 +1,6 @@
 // The line that names a forged record. It takes no memory.
 
-ghost use Rattle.std.specs.Prelude.{◌≡◌, ◌≤◌, ◌+◌, ◌++◌, ◌∷◌, [], codes, decimal, length};
+ghost use Rattle.std.specs.Prelude.{◌≡◌, ◌≤◌, ◌+◌, ◌*◌, ◌++◌, ◌∷◌, [], codes, decimal, length};
 ghost use Rattle.hex.specs.Hex.{encode_lower};
 ghost use Rattle.ff_ids.specs.Texts.{accusation_text};
 ghost use Rattle.journal.specs.Texts.{body_text, certificate_text, note_text};
@@ -9,7 +9,7 @@ ghost use Rattle.world_rules.specs.Walk.{owner_text};
 use arrayvec::ArrayString;
 use ff_ids::{AccBody, MemberId, NoteBody, digit};
 use itoa::Buffer;
-use records::{Body, CertBody, Key};
+use records::{Body, CertBody};
 
 /// Adds a number.
 fn add_number(number: u64, text: &mut ArrayString<256>)
@@ -32,10 +32,10 @@ fn add_next(number: u64, text: &mut ArrayString<256>)
 }
 
 /// Adds the two digits of each byte.
-fn add_digits(bytes: &[u8; 56], text: &mut ArrayString<256>)
-    requires { length text.old.bytes + 112 ≤ 256 }
+fn add_digits(bytes: &[u8], text: &mut ArrayString<256>)
+    requires { length text.old.bytes + 2 * length bytes.now ≤ 256 }
     ensures text { text.new.bytes ≡ text.old.bytes ++ encode_lower bytes.now }
-    ensures short { length text.new.bytes ≤ length text.old.bytes + 112 }
+    ensures long { length text.new.bytes ≡ length text.old.bytes + 2 * length bytes.now }
 {
     for byte in bytes {
         text.push(digit(*byte / 16));
@@ -44,23 +44,22 @@ fn add_digits(bytes: &[u8; 56], text: &mut ArrayString<256>)
 }
 
 fn add_certificate(certificate: &CertBody, text: &mut ArrayString<256>)
-    requires { length text.old.bytes + 160 ≤ 256 }
+    requires { length text.old.bytes + 168 ≤ 256 }
     ensures text { text.new.bytes ≡ text.old.bytes ++ certificate_text certificate.now }
-    ensures short { length text.new.bytes ≤ length text.old.bytes + 160 }
+    ensures short { length text.new.bytes ≤ length text.old.bytes + 168 }
 {
     text.push_str("cert ");
     add_number(u64::from(certificate.member.get()), text);
     add_next(u64::from(certificate.port), text);
     text.push_str(" ");
-    match &certificate.key {
-        Key::Lms(key) => add_digits(&key.write(), text),
-    }
+    let key = certificate.key.write();
+    add_digits(key.as_slice(), text);
 }
 
 fn add_note(note: &NoteBody, text: &mut ArrayString<256>)
-    requires { length text.old.bytes + 160 ≤ 256 }
+    requires { length text.old.bytes + 168 ≤ 256 }
     ensures text { text.new.bytes ≡ text.old.bytes ++ note_text note.now }
-    ensures short { length text.new.bytes ≤ length text.old.bytes + 160 }
+    ensures short { length text.new.bytes ≤ length text.old.bytes + 168 }
 {
     text.push_str("note ");
     add_number(u64::from(note.member.get()), text);
@@ -69,10 +68,10 @@ fn add_note(note: &NoteBody, text: &mut ArrayString<256>)
 }
 
 fn add_accusation(accusation: &AccBody, text: &mut ArrayString<256>)
-    requires { length text.old.bytes + 160 ≤ 256 }
+    requires { length text.old.bytes + 168 ≤ 256 }
     ensures text { text.new.bytes
         ≡ text.old.bytes ++ codes "accuse " ++ accusation_text accusation.now }
-    ensures short { length text.new.bytes ≤ length text.old.bytes + 160 }
+    ensures short { length text.new.bytes ≤ length text.old.bytes + 168 }
 {
     text.push_str("accuse ");
     add_number(u64::from(accusation.accuser.get()), text);
@@ -83,9 +82,9 @@ fn add_accusation(accusation: &AccBody, text: &mut ArrayString<256>)
 
 /// Adds a body as its kind is written.
 fn add_body(body: &Body, text: &mut ArrayString<256>)
-    requires { length text.old.bytes + 160 ≤ 256 }
+    requires { length text.old.bytes + 168 ≤ 256 }
     ensures text { text.new.bytes ≡ text.old.bytes ++ body_text body.now }
-    ensures short { length text.new.bytes ≤ length text.old.bytes + 160 }
+    ensures short { length text.new.bytes ≤ length text.old.bytes + 168 }
 {
     match body {
         Body::Certificate(certificate) => add_certificate(certificate, text),

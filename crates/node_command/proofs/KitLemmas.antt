@@ -6,19 +6,25 @@ use Rattle.std.proofs.lemmas.Bool.{false≢true}
 use Rattle.std.proofs.lemmas.List.{get_or-set_same, get_or-set_other, length-set, length-replicate}
 use Rattle.ff_ids.specs.declared.TheConstants.{LAST_MEMBER, MEMBERS}
 use Rattle.sha2.specs.Sha256.{sha256}
-use Rattle.secrets.specs.Secrets.{key_from, key_id}
-use Rattle.schedule_texts.specs.declared.line.Kinds.{Kinds}
-use Rattle.lms_tree.proofs.Keys.{key_in-key_bytes}
+use Rattle.secrets.specs.Secrets.{key_from, key_id, key_seed}
+use Rattle.sign_keys.specs.declared.key.SignKey.{SignKey}
+use Rattle.sign_keys.specs.declared.kinds.Kinds.{Kinds}
+use Rattle.sign_keys.specs.Keys.{IsNew, KeySecret, key_of, new_key, public_key, secret_of}
+use Rattle.sign_keys.specs.Kinds.{fits, is_in_profile}
+use Rattle.hss.specs.Keys as pairs
+use Rattle.sign_keys.proofs.Counts.{pair_fits}
+use Rattle.sign_keys.proofs.NewKeys.{new-is}
+use Rattle.lms_ots.specs.declared.kind.OtsKind.{OtsKind}
+use Rattle.lms_tree.specs.declared.kind.TreeKind.{TreeKind}
 use Rattle.lms_tree.proofs.Roots.{length-node}
-use Rattle.lms_tree.specs.declared.kind.KeyFault.{KeyFault}
-use Rattle.lms_tree.specs.Lms.{key_in}
+use Rattle.records.proofs.KeyParts.{key-again}
+use Rattle.records.specs.declared.keys.KeyFault.{KeyFault}
 use Rattle.std.proofs.lemmas.List.Elements.{All-cons, All-nil}
 use Rattle.std.proofs.lemmas.List.Folds.{list_any-append}
 use Rattle.sha2.proofs.Facts256.{length-sha256}
 use Rattle.ff_ids.specs.declared.Group.{Group}
 use Rattle.lms_tree.specs.declared.key.PublicKey.{PublicKey}
 use Rattle.lms_tree.specs.declared.secret.Secret.{Secret}
-use Rattle.lms_tree.specs.Lms as lms
 use Rattle.lms_tree.specs.Lms.{public_of}
 use Rattle.records.specs.declared.Body.{Body}
 use Rattle.records.specs.declared.Body.TheVariants.{Certificate}
@@ -26,9 +32,8 @@ use Rattle.records.specs.declared.CertBody.{CertBody}
 use Rattle.records.specs.declared.Record.{Record}
 use Rattle.records.specs.declared.keys.Key.{Key}
 use Rattle.records.specs.declared.keys.Key.TheVariants as key_kinds
-use Rattle.records.specs.Keys.{AreKey, HasParts, IsKey, key_bytes}
+use Rattle.records.specs.Keys.{AreKey, HasParts, IsKey, key_bytes, key_in}
 use Rattle.records.specs.Signing.{CheckedRecord, IsChecked}
-use Rattle.signer.specs.Signing.{public_key}
 use Rattle.line_text.specs.Answers.{Progress, moved}
 use Rattle.line_text.specs.Shapes.{Values}
 use Rattle.line_text.specs.Tables.{SpellsParts}
@@ -37,7 +42,7 @@ use Rattle.schedule_texts.specs.Shared.{group_shape, group_values}
 use Rattle.schedule_texts.specs.Shared as shared
 use Rattle.schedule_texts.proofs.FieldLemmas.{group-is}
 use Rattle.schedule_texts.specs.KitGrammar.{IsKit, after, certified_by}
-use Rattle.schedule_texts.specs.KitLaws.{IsOwned, cert-whole, end-whole, kit-spelled}
+use Rattle.schedule_texts.specs.KitLaws.{IsOwned, cert-whole, end-whole, kit-kinds, kit-spelled}
 use Rattle.schedule_texts.specs.KitRows.{cert_parts, checked_as, fields, is_ended, is_named, kit_table, may_stand}
 use Rattle.schedule_texts.specs.declared.kit_line.LineWord.TheVariants as words
 use Rattle.schedule_texts.specs.declared.kit.KitText.{KitText}
@@ -189,27 +194,51 @@ own-append group authority named me own c x xs body new long listed h = either (
 
 -- ## Keys
 
-long-public : (k : Secret) → length k.id ≡ 16 → IsKey (public_key k)
+tree-long : (k : Secret) → length k.id ≡ 16 → HasParts (public_of k)
 unfolding public_of
-long-public k long = record { id_long = long; root_long = length-node k 1 }
+tree-long k long = record { id_long = long; root_long = length-node k 1 }
+
+tree-ots : (k : Secret) → (public_of k).ots ≡ k.ots
+unfolding public_of
+tree-ots k = refl
+
+-- the parts of a key are as they should be, whose kinds are in the profile
+long-public : (ots : OtsKind) (tree : TreeKind) (bottom : Option TreeKind) (id seed : List ℕ) → fits ots tree bottom ≡ true → length id ≡ 16 → IsKey (public_key (key_of ots tree bottom id seed))
+long-public ots tree None id seed fit long = tree-long (record { tree = tree; ots = ots; id = id; seed = seed }) long
+long-public ots tree (Some bottom) id seed fit long =
+    let top : Secret = record { tree = tree; ots = ots; id = id; seed = seed } in
+    record { top = tree-long top long; in_profile = ap pairs.is_in_profile (tree-ots top) ∙ (pair_fits ots tree bottom fit).0 }
 
 id-long : (secret : List ℕ) → length (key_id secret) ≡ 16
 unfolding key_id
 id-long secret = length-take 16 (sha256 (codes "FFLMSI" ++ secret)) ∙ grind (length-sha256 (codes "FFLMSI" ++ secret), arith)
 
-abbrev kept : PublicKey → Result PublicKey KeyFault
-kept k = Ok k
+-- of the key that a secret gives
+long-from : (kinds : Kinds) (secret : List ℕ) → is_in_profile kinds ≡ true → IsKey (public_key (key_from kinds secret))
+long-from kinds secret fit = long-public kinds.ots kinds.tree kinds.bottom (key_id secret) (key_seed secret) fit (id-long secret)
 
-lms-same : (a b : PublicKey) → HasParts a → HasParts b → lms.key_bytes a ≡ lms.key_bytes b → a ≡ b
-lms-same a b x y e =
-    let same : kept a ≡ kept b = sym (key_in-key_bytes a x.id_long x.root_long) ∙ ap key_in e ∙ key_in-key_bytes b y.id_long y.root_long in cc
+-- A key that is new, and whose parts are as they should be.
+record IsOwnKey (key : SignKey) : Type 0 where
+  fresh : IsNew key (secret_of key)
+  long : IsKey (public_key (secret_of key))
+
+own-new : (secret : KeySecret) → IsKey (public_key secret) → IsOwnKey (new_key secret)
+own-new secret long =
+    let same : secret ≡ secret_of (new_key secret) = sym (new-is secret).is in
+    record { fresh = subst (λ (s : KeySecret). IsNew (new_key secret) s) same (new-is secret); long = subst (λ (s : KeySecret). IsKey (public_key s)) same long }
+
+abbrev kept : Key → Result Key KeyFault
+kept k = Ok k
 
 -- the bytes of a key are one key's
 same-key : (a b : Key) → IsKey a → IsKey b → key_bytes a ≡ key_bytes b → a ≡ b
-same-key (key_kinds.Lms a) (key_kinds.Lms b) x y e = ap key_kinds.Lms (lms-same a b x y e)
+same-key a b x y e =
+    let same : kept a ≡ kept b =
+    sym (key-again (key_bytes a) a (record { spelled = refl; parts = x })) ∙ ap key_in e ∙ key-again (key_bytes b) b (record { spelled = refl; parts = y }) in
+    cc
 
 long-key : (bytes : List ℕ) (k : Key) → AreKey bytes k → IsKey k
-long-key bytes (key_kinds.Lms k) are = record { id_long = are.id; root_long = are.root }
+long-key bytes k are = are.parts
 
 -- ## What has been read, and what it sets up
 
@@ -229,8 +258,8 @@ numbers g h = record {
 record IsOwner (owner : Owner) (own : Own) : Type 0 where
   group : shared.IsGroup owner.group
   member : owner.member ≡ own.member
-  key : owner.key ≡ public_key own.key
-  long : length own.key.id ≡ 16
+  key : owner.key ≡ public_key (secret_of own.key)
+  new : IsOwnKey own.key
 
 record FitsOwned (owner : Owner) (u : SetUp) : Type 0 where
   own : Own
@@ -264,30 +293,36 @@ pub record IsUp (u : SetUp) : Type 0 where
   pub is : u ≡ record { group = Some group; own = Some own; authority = Some authority; millis = Some millis; certificates = certificates }
   pub numbers : IsGroup group
   pub pace : 1 ≤ millis
+  pub fresh : IsNew own.key (secret_of own.key)
   pub checked : All (IsCheckedIn group (key_kinds.Lms authority)) certificates
   pub apart : AreApart (recs_of certificates)
   pub among : list_any (λ r. is_certificate_for own.member r.body) (recs_of certificates) ≡ true
-  pub keys : AllByRecursion (HasKey own.member (public_key own.key)) (recs_of certificates)
+  pub keys : AllByRecursion (HasKey own.member (public_key (secret_of own.key))) (recs_of certificates)
 
 record FitsGroup (g : Group) (u : SetUp) : Type 0 where
   is : u ≡ record nothing_up { group = Some g }
   numbers : shared.IsGroup g
 
+record FitsKinds (g : Group) (kinds : Kinds) (u : SetUp) : Type 0 where
+  group : FitsGroup g u
+  kinds_fit : is_in_profile kinds ≡ true
+
 abbrev Fits : KitText → SetUp → Type 0
 Fits kit.Start u = u ≡ nothing_up
 Fits kit.Headed u = u ≡ nothing_up
 Fits (kit.Grouped g) u = FitsGroup g u
-Fits (kit.Kinded g kinds) u = FitsGroup g u
+Fits (kit.Kinded g kinds) u = FitsKinds g kinds u
 Fits (kit.Owned owner) u = FitsOwned owner u
 Fits (kit.Authorized owner authority) u = FitsAuthorized owner authority u
 Fits (kit.Body owner authority named ownkey) u = FitsBody owner authority named ownkey u
 Fits kit.Ended u = IsUp u
 
-own-up : (g : Group) (kinds : Kinds) (m : ℕ) (secret : List ℕ) (own_key : Secret) (u : SetUp) → key_from kinds.ots kinds.tree secret ≡ own_key → FitsGroup g u → FitsOwned (record { group = g; member = m; key = public_key own_key }) (sets u (lines.Own m secret own_key))
+own-up : (g : Group) (kinds : Kinds) (m : ℕ) (secret : List ℕ) (own_key : SignKey) (u : SetUp) → new_key (key_from kinds secret) ≡ own_key → FitsKinds g kinds u
+    → FitsOwned (record { group = g; member = m; key = public_key (secret_of own_key) }) (sets u (lines.Own m secret own_key))
 own-up g kinds m secret own_key u made fits = record {
   own = record { member = m; secret = secret; key = own_key };
-  is = ap (λ (v : SetUp). sets v (lines.Own m secret own_key)) fits.is;
-  owner_is = record { group = fits.numbers; member = refl; key = refl; long = subst (λ (k : Secret). length k.id ≡ 16) made (id-long secret) };
+  is = ap (λ (v : SetUp). sets v (lines.Own m secret own_key)) fits.group.is;
+  owner_is = record { group = fits.group.numbers; member = refl; key = refl; new = subst IsOwnKey made (own-new (key_from kinds secret) (long-from kinds secret fits.kinds_fit)) };
 }
 
 -- A certificate of a number that had none, of a key that is one.
@@ -353,7 +388,8 @@ ended-up : (owner : Owner) (authority : PublicKey) (named : List Bool) (ownkey :
 ended-up owner authority named None u owned fits = absurd owned
 ended-up owner authority named (Some k) u owned fits =
     let o = fits.owner_is in
-    let same : k ≡ public_key fits.own.key = same-key k (public_key fits.own.key) fits.found.long (long-public fits.own.key o.long) (owned ∙ ap key_bytes o.key) in
+    let public : Key = public_key (secret_of fits.own.key) in
+    let same : k ≡ public = same-key k public fits.found.long o.new.long (owned ∙ ap key_bytes o.key) in
     record {
       group = owner.group;
       own = fits.own;
@@ -363,10 +399,11 @@ ended-up owner authority named (Some k) u owned fits =
       is = fits.is;
       numbers = numbers owner.group o.group;
       pace = fits.pace;
+      fresh = o.new.fresh;
       checked = all-of (IsCheckedIn owner.group (key_kinds.Lms authority)) fits.certificates (each-as (IsListed owner.group authority named) (IsCheckedIn owner.group (key_kinds.Lms authority)) fits.certificates (λ x h. h.checked) fits.listed);
       apart = fits.apart;
       among = subst (λ (m : ℕ). list_any (λ r. is_certificate_for m r.body) (recs_of fits.certificates) ≡ true) o.member fits.found.among;
-      keys = subst (λ (m : ℕ). AllByRecursion (HasKey m (public_key fits.own.key)) (recs_of fits.certificates)) o.member
+      keys = subst (λ (m : ℕ). AllByRecursion (HasKey m public) (recs_of fits.certificates)) o.member
           (subst (λ (q : Key). AllByRecursion (HasKey owner.member q) (recs_of fits.certificates)) same fits.found.keys);
     }
 
@@ -374,10 +411,10 @@ ended-up owner authority named (Some k) u owned fits =
 step : (form : KitText) (ws : List (List ℕ)) (l : KitLine) (u : SetUp) → IsKit form ws l → Fits form u → Fits (after form l) (sets u l)
 step kit.Start ws lines.Header u is fits = fits
 step kit.Headed ws (lines.Group g) u is fits = record { is = ap (λ (v : SetUp). sets v (lines.Group g)) fits; numbers = group-is g (all-in_range group_shape is.args (group_values g) is.spells) }
-step (kit.Grouped g) ws (lines.Kinds kinds) u is fits = fits
+step (kit.Grouped g) ws (lines.Kinds kinds) u is fits = record { group = fits; kinds_fit = kit-kinds (kit.Grouped g) ws kinds is }
 step (kit.Kinded g kinds) ws (lines.Own m secret own_key) u is fits =
-    let line : lines.Own m secret (key_from kinds.ots kinds.tree secret) ≡ lines.Own m secret own_key = is.made in
-    let made : key_from kinds.ots kinds.tree secret ≡ own_key = cc in
+    let line : lines.Own m secret (new_key (key_from kinds secret)) ≡ lines.Own m secret own_key = is.made in
+    let made : new_key (key_from kinds secret) ≡ own_key = cc in
     own-up g kinds m secret own_key u made fits
 step (kit.Owned owner) ws (lines.Authority authority) u is fits =
     record { own = fits.own; is = ap (λ (v : SetUp). sets v (lines.Authority authority)) fits.is; owner_is = fits.owner_is }
@@ -462,6 +499,7 @@ up-sound u m h is checked =
     (record {
       numbers = h.numbers;
       pace = h.pace;
+      fresh = h.fresh;
       checked = h.checked;
       certified = record { apart = h.apart; among = h.among; keys = h.keys; verify = subst (AllByRecursion IsChecked) (ap (λ (v : SetUp). v.certificates) h.is) checked };
     })

@@ -8,13 +8,13 @@ use Rattle.epoch_store.specs.Asked.{AsksToOpen}
 use Rattle.epoch_store.specs.Calls.{HoldsStore, IsNotTaken, OnRead, OpensAs, SettlesAs, StoreState, is_fault, same}
 use Rattle.epoch_store.specs.Store.{IsSettled, StoreAt}
 use Rattle.journal.specs.declared.event.Event as journal
-use Rattle.lms_tree.specs.Leaves.{index_count}
 use Rattle.ports.specs.Count.{counted}
 use Rattle.ports.specs.Disk.{Fails, Moment, stays}
 use Rattle.ports.proofs.SinceLemmas.{Since-trans, Since-weaken}
 use Rattle.secrets.specs.Secrets.{nonce_seed}
+use Rattle.sign_keys.specs.Keys.{index_count, public_key}
 use Rattle.signer.specs.Lives.{EndsLives, EndsNow, EndsWithin, IsLiving, Spent}
-use Rattle.signer.specs.Signing.{SignerState, public_key}
+use Rattle.signer.specs.Signing.{SignerState}
 use Rattle.signer.proofs.LivingLemmas.{kept_by_opening, nothing_spent}
 use Rattle.signer.proofs.OnwardLemmas.{within-none}
 use Rattle.node_rules.specs.Nodes.{Setting}
@@ -28,7 +28,7 @@ use Rattle.node_core.specs.Spending.{LivesOn, SpendsIn, SpendsUntold, spent_told
 use Rattle.node_command.specs.declared.halt.NodeHalt.TheVariants as halt
 use Rattle.node_command.specs.declared.kit.Member.{Member}
 use Rattle.node_command.specs.Halts.{IsOfOpening, IsOfStart, halt_by, halt_for}
-use Rattle.node_command.specs.Members.{tag_of}
+use Rattle.node_command.specs.Members.{key_of, tag_of}
 use Rattle.node_command.specs.Opening.{Begins, Ends, EndsFronts, Fresh, IsBroken, IsFound, OpensFile, Tells, setting_for, start_of}
 use Rattle.ports.specs.Outside.{OfDisk}
 
@@ -92,14 +92,14 @@ fronts-opened m st old mid more h = λ before spent ends.
     Since-weaken (EndsLives (tag_of m) before spent) (EndsWithin (tag_of m) before spent more) old.moments mid.moments (within-none (tag_of m) before spent more)
     (kept_by_opening (tag_of m) before spent old.moments mid.moments ends h.moments).0
 
-pub used-up : (m : Member) (st : StoreState) (old mid : OfDisk) (told : List journal.Event) (next : ℕ) → Opened m st old mid → next ≡ st.state.next → index_count m.own.key ≤ next → Begins m old mid told (Err (halt.Exhausted next))
+pub used-up : (m : Member) (st : StoreState) (old mid : OfDisk) (told : List journal.Event) (next : ℕ) → Opened m st old mid → next ≡ st.state.next → index_count (key_of m) ≤ next → Begins m old mid told (Err (halt.Exhausted next))
 used-up m st old mid told next h is gone = record { faults = h.faults; stored = st.state; found = found m st old mid h; next_is = is; gone = gone; ends = ends-opened m st old mid h; any_moment = fronts-opened m st old mid [] h }
 
 -- ## The life
 
 -- the signer over the store
 abbrev pub signer_of : Member → StoreState → SignerState
-signer_of m st = record { group = m.group; key = m.own.key; leaf = st.state.next; state = st.state; seat = st.seat; closed = false }
+signer_of m st = record { group = m.group; key = key_of m; leaf = st.state.next; state = st.state; seat = st.seat; closed = false }
 
 -- where crashes end the lives so, the signer's life goes on from there
 abbrev pub Begun : Member → StoreState → List Moment → Type 0
@@ -122,7 +122,7 @@ fronts-so m st old mid new later spent h begun key = λ before spent_before ends
 
 pub started-so : (m : Member) (st : StoreState) (kept : Kept) (told : List journal.Event) (old mid new : OfDisk) → Opened m st old mid → Begun m st mid.moments → new.faults ≡ mid.faults
     → Starts (setting_for m) (nonce_seed m.own.secret st.state.next) (recs_of m.certificates.items) st.state kept [] told
-    → IsVouchable (setting_for m) (public_key m.own.key) (recs_of m.certificates.items) st.state → kept.ended ≡ false → kept.signer.closed ≡ false
+    → IsVouchable (setting_for m) (public_key (key_of m)) (recs_of m.certificates.items) st.state → kept.ended ≡ false → kept.signer.closed ≡ false
     → SpendsIn {T = Kept} (Ok kept) (signer_of m st) kept.signer mid.moments new.moments [] told → Begins m old new told (Ok kept)
 started-so m st kept told old mid new h begun faults starts vouchable going unclosed spends =
     let told_is : told ≡ (start_of m st.state).told = starts.told in

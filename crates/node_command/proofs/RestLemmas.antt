@@ -18,7 +18,7 @@ use Rattle.trace.specs.Written.{IsLineOf}
 use Rattle.whole_text.specs.Gathered.{IsUnfinished, Judging, lines_from, nothing, owed_whole, unread}
 use Rattle.whole_text.specs.Laws.{told-silent}
 use Rattle.whole_text.proofs.WholeLemmas.{never-unwritten}
-use Rattle.signer.specs.Signing.{public_key}
+use Rattle.sign_keys.specs.Keys.{public_key}
 use Rattle.node_core.specs.Begins.{IsVouchable}
 use Rattle.node_core.specs.Rolls.{recs_of}
 use Rattle.journal.specs.declared.event.What.TheVariants as happened
@@ -29,7 +29,7 @@ use Rattle.node_rules.proofs.SentRecords.{sent-authentic}
 use Rattle.node_command.specs.declared.halt.NodeHalt.{NodeHalt}
 use Rattle.node_command.specs.declared.halt.NodeHalt.TheVariants as halt
 use Rattle.node_command.specs.declared.kit.Member.{Member}
-use Rattle.node_command.specs.Members.{IsMember, kit_judging}
+use Rattle.node_command.specs.Members.{IsMember, key_of, kit_judging}
 use Rattle.node_command.specs.Opening.{IsFound, setting_for, start_of}
 use Rattle.ports.specs.Outside.{OfDisk}
 use Rattle.node_command.specs.Journal.{Environment, end_line, lines_of}
@@ -44,7 +44,7 @@ use Rattle.node_command.proofs.WrittenLemmas.{Gives, IsFounded, TellsOf, WritesO
 
 -- ## The life that began
 
-founded : (m : Member) (stored : Stored) (feed : NetInputs) → IsVouchable (setting_for m) (public_key m.own.key) (recs_of m.certificates.items) stored → IsFounded (setting_for m) (public_key m.own.key) (first_of m stored feed)
+founded : (m : Member) (stored : Stored) (feed : NetInputs) → IsVouchable (setting_for m) (public_key (key_of m)) (recs_of m.certificates.items) stored → IsFounded (setting_for m) (public_key (key_of m)) (first_of m stored feed)
 founded m stored feed v =
     let seed = nonce_seed m.own.secret stored.next in
     let recs = recs_of m.certificates.items in
@@ -52,11 +52,11 @@ founded m stored feed v =
       rooted = record {
         some = v.rings.some;
         sign = v.signatures;
-        vouched = key-started (setting_for m) (public_key m.own.key) seed recs stored v.kit.all v.kit.own v.certified v.left;
+        vouched = key-started (setting_for m) (public_key (key_of m)) seed recs stored v.kit.all v.kit.own v.certified v.left;
         unaccused = start-unaccused (setting_for m) seed recs stored v.kit.all;
         kept = own-started (setting_for m) seed recs stored (all_rings-good (setting_for m).group.t) v.kit.all v.kit.own;
       };
-      upright = record { sends = λ inputs i fails_at. sent-authentic (setting_for m) (public_key m.own.key) seed recs stored inputs i fails_at v.rings.some v.kit v.certified v.signatures v.left };
+      upright = record { sends = λ inputs i fails_at. sent-authentic (setting_for m) (public_key (key_of m)) seed recs stored inputs i fails_at v.rings.some v.kit v.certified v.signatures v.left };
     }
 
 tells-start : (m : Member) (stored : Stored) (feed : NetInputs) → AreCertificates (recs_of m.certificates.items) → TellsOf (setting_for m) (first_of m stored feed) (acts_of m feed) (start_of m stored).told
@@ -80,14 +80,14 @@ run-written m feed was now done h =
     let told = (start_of m h.stored).told in
     let text = (life_in m h.stored feed).text in
     let first = lines-told s start acts told (tells-start m h.stored feed h.vouchable.kit.all) in
-    let all = lines-all s (public_key m.own.key) start acts (founded m h.stored feed h.vouchable) refl (life-of m.millis feed.stay.turns feed.stay.leave feed.link.coming feed.reading feed.readings) in
+    let all = lines-all s (public_key (key_of m)) start acts (founded m h.stored feed h.vouchable) refl (life-of m.millis feed.stay.turns feed.stay.leave feed.link.coming feed.reading feed.readings) in
     writes-all s start acts was.taken now.taken (lines_of told ++ text ++ end_line) (Ok done) h.written
     (lines-behind (Gives s start acts) (lines_of told ++ text) end_line (lines-behind (Gives s start acts) (lines_of told) text first all) (end-lines s start acts)) (λ x. x)
 
 out-written : (m : Member) (feed : NetInputs) (was now : Environment) (result : Result (Unit {0}) NodeHalt) → (l : LivesOut m feed was now result) → WritesIn m l.0 feed was.taken now.taken result
 out-written m feed was now result l =
     let stored = l.0 in
-    lives-written (setting_for m) (public_key m.own.key) l.1 (first_of m stored feed) (acts_of m feed) (start_of m stored).told (record was { disk = l.2 }) now result
+    lives-written (setting_for m) (public_key (key_of m)) l.1 (first_of m stored feed) (acts_of m feed) (start_of m stored).told (record was { disk = l.2 }) now result
     (founded m stored feed l.3.vouchable) refl (life-of m.millis feed.stay.turns feed.stay.leave feed.link.coming feed.reading feed.readings) (tells-start m stored feed l.3.vouchable.kit.all) l.4
 
 -- ## The lines of a run

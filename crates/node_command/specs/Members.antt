@@ -2,7 +2,6 @@
 use Rattle.std.specs.Prelude.{◌≡◌, ℕ, ◌≤◌, All, List, [], ◌∷◌, ◌++◌, Option, Some, None, Ok, fold, find, unwrap_or, option_map}
 use Rattle.ff_ids.specs.declared.Group.{Group}
 use Rattle.lms_tree.specs.declared.key.PublicKey.{PublicKey}
-use Rattle.lms_tree.specs.Lms.{public_of}
 use Rattle.play.specs.Plays.{IoState}
 use Rattle.records.specs.declared.Body.{Body}
 use Rattle.records.specs.declared.Body.TheVariants.{Certificate}
@@ -15,7 +14,7 @@ use Rattle.schedule_texts.specs.declared.kit.KitText.TheVariants as kit
 use Rattle.schedule_texts.specs.declared.kit_line.KitLine.{KitLine}
 use Rattle.schedule_texts.specs.declared.kit_line.KitLine.TheVariants as lines
 use Rattle.secrets.specs.Secrets.{store_tag}
-use Rattle.signer.specs.Signing.{public_key}
+use Rattle.sign_keys.specs.Keys.{IsNew, KeySecret, public_key, secret_of}
 use Rattle.whole_text.specs.Gathered.{IsWhole, Judging, lines_from, unread}
 use Rattle.node_rules.specs.Lives.{is_certificate_for}
 use Rattle.node_core.specs.Begins.{AreCertificatesOf, IsCheckedIn, IsGroup}
@@ -67,13 +66,15 @@ pub record AreKit (lines : List KitLine) : Type 0 where
   pub seen : List (List ℕ)
   pub are : lines_from kit_judging (unread kit.Start) seen ≡ Ok lines
 
--- A member may begin a life: the group's numbers are in their ranges, a tick lasts some time, and the certificates are checked
--- in the group under the authority's key, no two of one number, the own one with the own key among them.
+-- A member may begin a life: the group's numbers are in their ranges, a tick lasts some time, no index of the own key was handed
+-- out, and the certificates are checked in the group under the authority's key, no two of one number, the own one with the own
+-- key among them.
 pub record IsSound (group : Group) (own : Own) (authority : PublicKey) (millis : ℕ) (certificates : List CheckedRecord) : Type 0 where
   pub numbers : IsGroup group
   pub pace : 1 ≤ millis
+  pub fresh : IsNew own.key (secret_of own.key)
   pub checked : All (IsCheckedIn group (key_kinds.Lms authority)) certificates
-  pub certified : AreCertificatesOf own.member (public_key own.key) certificates
+  pub certified : AreCertificatesOf own.member (public_key (secret_of own.key)) certificates
 
 abbrev pub IsSoundMember : Member → Type 0
 IsSoundMember m = IsSound m.group m.own m.authority m.millis m.certificates.items
@@ -85,9 +86,13 @@ pub record IsMember (was now : IoState) (m : Member) : Type 0 where
   pub is : SetsUp (set_by lines) m
   pub sound : IsSoundMember m
 
+-- what determines the member's key
+abbrev pub key_of : Member → KeySecret
+key_of m = secret_of m.own.key
+
 -- the mark of the member's store
 abbrev pub tag_of : Member → List ℕ
-tag_of m = store_tag m.group (public_of m.own.key)
+tag_of m = store_tag m.group (key_of m)
 
 -- the port in a certificate
 abbrev pub port_in : Body → ℕ

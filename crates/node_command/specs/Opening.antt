@@ -7,13 +7,13 @@ use Rattle.epoch_store.specs.Asked.{ReadsGates, open_calls}
 use Rattle.epoch_store.specs.Calls.{HoldsStore, OpensAs, SettlesAs, same}
 use Rattle.epoch_store.specs.Store.{StoreOf}
 use Rattle.journal.specs.declared.event.Event as journal
-use Rattle.lms_tree.specs.Leaves.{index_count}
 use Rattle.ports.specs.Count.{next_count}
 use Rattle.ports.specs.Disk.{Fails, Moment, Since, stays}
 use Rattle.ports.specs.Outside.{OfDisk}
 use Rattle.secrets.specs.Secrets.{nonce_seed}
+use Rattle.sign_keys.specs.Keys.{index_count, public_key}
 use Rattle.signer.specs.Lives.{EndsNow, EndsWithin, IsLiving, Spent}
-use Rattle.signer.specs.Signing.{SignerState, public_key}
+use Rattle.signer.specs.Signing.{SignerState}
 use Rattle.node_rules.specs.Nodes.{Setting}
 use Rattle.node_rules.specs.Calls.{Call}
 use Rattle.node_rules.specs.Starting.{started}
@@ -25,11 +25,11 @@ use Rattle.node_command.specs.declared.halt.NodeHalt.{NodeHalt}
 use Rattle.node_command.specs.declared.halt.NodeHalt.TheVariants as halt
 use Rattle.node_command.specs.declared.kit.Member.{Member}
 use Rattle.node_command.specs.Halts.{halt_for}
-use Rattle.node_command.specs.Members.{tag_of}
+use Rattle.node_command.specs.Members.{key_of, tag_of}
 
 -- what the life of a member is opened with
 abbrev pub setting_for : Member → Setting
-setting_for m = setting_of m.group m.own.member m.authority m.own.key
+setting_for m = setting_of m.group m.own.member m.authority (key_of m)
 
 -- How its life begins, where its store keeps this.
 abbrev pub start_of : Member → Stored → Call
@@ -83,7 +83,7 @@ pub record IsUsedUp (m : Member) (next : ℕ) (old new : OfDisk) : Type 0 where
   pub stored : Stored
   pub found : IsFound m stored old
   pub next_is : next ≡ stored.next
-  pub gone : index_count m.own.key ≤ next
+  pub gone : index_count (key_of m) ≤ next
   pub ends : Ends m [] old new
   pub any_moment : EndsFronts m [] old new
 
@@ -97,7 +97,7 @@ pub record StartFails (m : Member) (old new : OfDisk) : Type 0 where
   pub faults : new.faults ≡ next_count old.faults
   pub stored : Stored
   pub found : IsFound m stored old
-  pub left : stored.next < index_count m.own.key
+  pub left : stored.next < index_count (key_of m)
   pub ends : Ends m [] old new
   pub any_moment : EndsFronts m [] old new
 
@@ -128,7 +128,7 @@ pub record IsBegun (m : Member) (stored : Stored) (node : Kept) (told : List jou
   pub found : IsFound m stored old
   pub is : IsNode (setting_for m) node (start_of m stored).node
   pub told_is : told ≡ (start_of m stored).told
-  pub vouchable : IsVouchable (setting_for m) (public_key m.own.key) (recs_of m.certificates.items) stored
+  pub vouchable : IsVouchable (setting_for m) (public_key (key_of m)) (recs_of m.certificates.items) stored
   pub going : node.ended ≡ false
   pub unclosed : node.signer.closed ≡ false
   pub lives : (before : List ℕ) (spent : List Spent) → EndsNow (tag_of m) before spent old.moments

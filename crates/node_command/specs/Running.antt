@@ -13,7 +13,7 @@ use Rattle.ports.specs.Link.{LinkState}
 use Rattle.schedule_texts.specs.declared.kit.KitText.TheVariants as kit
 use Rattle.schedule_texts.specs.declared.kit_line.KitLine.{KitLine}
 use Rattle.whole_text.specs.Gathered.{IsUnfinished, IsWhole}
-use Rattle.signer.specs.Signing.{public_key}
+use Rattle.sign_keys.specs.Keys.{public_key}
 use Rattle.node_core.specs.Begins.{IsVouchable}
 use Rattle.node_core.specs.Playing.{Kept}
 use Rattle.node_core.specs.Rolls.{recs_of}
@@ -25,7 +25,7 @@ use Rattle.node_command.specs.declared.halt.NodeHalt.TheVariants as halt
 use Rattle.node_command.specs.declared.kit.Member.{Member}
 use Rattle.node_command.specs.declared.stay.Stay.{Stay}
 use Rattle.node_command.specs.Halts.{is_write_fault}
-use Rattle.node_command.specs.Members.{IsMember, kit_judging, own_port, tag_of}
+use Rattle.node_command.specs.Members.{IsMember, key_of, kit_judging, own_port, tag_of}
 use Rattle.node_command.specs.Opening.{Ends, IsBegun, IsBroken, IsFound, IsRefused, IsUnopened, IsUnstarted, IsUsedUp, OpeningFails, StartFails, Tells, setting_for, start_of}
 use Rattle.ports.specs.Outside.{OfDisk}
 use Rattle.node_command.specs.Spendings.{IsSpentFrom, kept_behind}
@@ -64,7 +64,7 @@ pub record HasRun (m : Member) (feed : NetInputs) (was now : Environment) : Type
   pub stored : Stored
   pub found : IsFound m stored was.disk
   -- A law of any member that a text sets up: `found`, `written` and `given` tie it to this run.
-  pub vouchable : IsVouchable (setting_for m) (public_key m.own.key) (recs_of m.certificates.items) stored
+  pub vouchable : IsVouchable (setting_for m) (public_key (key_of m)) (recs_of m.certificates.items) stored
   pub written : Appends was.taken now.taken (journal_of m stored feed.stay feed.link feed.reading feed.readings)
   pub given : now.link ≡ Some (life_in m stored feed).link
   -- A law of any life: `given` ties it to the link.

@@ -24,7 +24,7 @@ pub enum NodeHalt {
     StoreBroken { place: u64, byte: Option<u8> },
     /// The port could not be bound.
     LinkFault,
-    /// The key has no leaf from this number on.
+    /// The key has no index from this number on.
     Exhausted { next: u32 },
     /// Memory was refused.
     OutOfMemory,

@@ -8,9 +8,10 @@ ghost use Rattle.node_command.specs.Members.{AreKit, IsSoundMember, IsWholeSetUp
 
 use ff_ids::{Group, MemberId};
 use fields::NoMemory;
-use lms_tree::{PublicKey, SecretKey};
+use lms_tree::PublicKey;
 use records::{Body, Checked};
 use schedule_texts::KitLine;
+use sign_keys::SignKey;
 use std::alloc::Global;
 use std::marker::Model;
 
@@ -19,7 +20,7 @@ use std::marker::Model;
 pub struct Own {
     pub member: MemberId,
     pub secret: [u8; 32],
-    pub key: SecretKey,
+    pub key: SignKey,
 }
 
 /// What the lines of a text so far set up. Contracts see the parts.

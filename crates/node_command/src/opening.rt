@@ -39,14 +39,12 @@ pub fn begin<D: Disk>(
         secret,
         key,
     } = own;
-    let public = key.public();
-    let (tree, leaves) = key.split();
-    let store = match Store::open(disk, name, &store_tag(&group, &public)) {
+    let store = match Store::open(disk, name, &store_tag(&group, &key)) {
         Ok(store) => store,
         Err(error) => return Err(NodeHalt::unopened(error)),
     };
     let next = store.state().next;
-    if next > tree.index_count() {
+    if next > key.index_count() {
         return Err(NodeHalt::Exhausted { next });
     }
     let kit = Kit {
@@ -56,7 +54,7 @@ pub fn begin<D: Disk>(
         certificates,
         nonce_seed: nonce_seed(&secret, next),
     };
-    let signer = Signer::open(group, tree, leaves, store);
+    let signer = Signer::open(group, key, store);
     match Node::start(alloc, kit, signer, disk, events) {
         Ok(node) => Ok(node),
         Err(fault) => Err(NodeHalt::unstarted(fault)),

@@ -1,5 +1,4 @@
 use Rattle.std.proofs.Common.{◌≡◌, ◌∙◌, ap}
-use Rattle.lms_tree.specs.Lms.{public_of}
 use Rattle.secrets.specs.Secrets.{store_tag}
 use Rattle.authority.specs.Settings.{tag_of}
 use Rattle.authority.proofs.OpeningLemmas.{not-opened, opened, unopened}
@@ -8,11 +7,10 @@ use Rattle.authority.proofs.enrolling.open_store.Goals as goal
 pub returns-in-Ok-open : goal.returns-in-Ok-open
 returns-in-Ok-open g c =
     let tag : c.store_tag.result ≡ tag_of c.args.setting.now =
-    c.store_tag.ensures ∙ ap (store_tag c.args.setting.now.group) (c.public.ensures ∙ ap public_of (c.split.ensures.tree ∙ c.in-Ok.ensures)) in
+    c.store_tag.ensures ∙ ap (store_tag c.args.setting.now.group) c.in-Ok.ensures.is in
     record {
       opens = record {
-        tree = c.split.ensures.tree ∙ c.in-Ok.ensures;
-        leaves = c.split.ensures.leaves ∙ ap (λ k. record { key = k; next = 0 }) c.in-Ok.ensures;
+        key = c.in-Ok.ensures;
         going = c.in-Ok-open.ensures.runs;
         opened =
             opened c.args.name.now c.args.setting.now c.store_tag.result c.in-Ok-open.store
@@ -25,7 +23,7 @@ returns-in-Ok-open g c =
 pub returns-in-Err-open : goal.returns-in-Err-open
 returns-in-Err-open g c =
     let tag : c.store_tag.result ≡ tag_of c.args.setting.now =
-    c.store_tag.ensures ∙ ap (store_tag c.args.setting.now.group) (c.public.ensures ∙ ap public_of (c.split.ensures.tree ∙ c.in-Ok.ensures)) in
+    c.store_tag.ensures ∙ ap (store_tag c.args.setting.now.group) c.in-Ok.ensures.is in
     record {
       opens =
           rw c.from.ensures

@@ -1,23 +1,22 @@
 use Rattle.std.proofs.Common.{◌≡◌, ◌≤◌, ◌∙◌, [], ap, arith}
-use Rattle.lms_tree.specs.Leaves.{index_count}
-use Rattle.secrets.specs.Secrets.{nonce_seed, store_tag}
+use Rattle.secrets.specs.Secrets.{nonce_seed}
+use Rattle.sign_keys.specs.Keys.{index_count}
 use Rattle.epoch_store.specs.Calls.{StoreState}
 use Rattle.epoch_store.specs.declared.Stored.{Stored}
 use Rattle.node_core.specs.Playing.{Kept}
-use Rattle.node_command.specs.Members.{tag_of}
+use Rattle.node_command.specs.Members.{key_of, tag_of}
 use Rattle.node_command.proofs.OpenLemmas.{file-read, file-started, opened, used-up, of-opening, of-start, signer_of, started-from, not-started-from}
 use Rattle.node_command.proofs.opening.begin.Goals as goal
 
 pub returns-then-next-index_count : goal.returns-then-next-index_count
 returns-then-next-index_count g c =
     let m = c.args.member in
-    let tag : c.store_tag.result ≡ tag_of m = c.store_tag.ensures ∙ ap (store_tag m.group) c.public-public.ensures in
+    let tag : c.store_tag.result ≡ tag_of m = c.store_tag.ensures in
     let old = g.D.Disk.state c.args.disk.now in
     let mid = g.D.Disk.state c.open.new.disk in
     let h = opened m c.store_tag.result c.in-Ok.store old mid tag c.in-Ok.ensures.faults c.in-Ok.ensures.settles c.in-Ok.ensures.store c.in-Ok.ensures.any_moment in
     let next : c.state-next.result.next ≡ c.in-Ok.store.state.next = ap (λ (s : Stored). s.next) c.state-next.ensures.value in
-    let count = ap index_count c.split-tree.ensures.tree in
-    let gone : index_count m.own.key ≤ c.state-next.result.next = let a = c.if-next-index_count.true in let b = c.index_count.ensures.value in omega (arith, a, b, count) in
+    let gone : index_count (key_of m) ≤ c.state-next.result.next = let a = c.if-next-index_count.true in let b = c.index_count.ensures.value in omega (arith, a, b) in
     record { opened = tt; begins = used-up m c.in-Ok.store old mid [] c.state-next.result.next h next gone }
 
 pub unopened-requires : goal.unopened-requires
@@ -29,7 +28,7 @@ unstarted-requires g c = of-start c.open-signer.result c.in-Err-start.fault c.in
 pub returns-in-Err-clause-opened : goal.returns-in-Err-clause-opened
 returns-in-Err-clause-opened g c =
     let m = c.args.member in
-    let tag : c.store_tag.result ≡ tag_of m = c.store_tag.ensures ∙ ap (store_tag m.group) c.public-public.ensures in
+    let tag : c.store_tag.result ≡ tag_of m = c.store_tag.ensures in
     let e = c.in-Err.ensures in
     rw c.unopened.ensures (file-read Kept m c.args.name.now c.store_tag.result (g.D.Disk.state c.args.disk.now) (g.D.Disk.state c.open.new.disk) c.in-Err.error tag e.faults e.reads e.settles e.any_moment e.calls)
 
@@ -42,13 +41,13 @@ open-signer-requires-clause-within g c =
 pub returns-in-Ok-start : goal.returns-in-Ok-start
 returns-in-Ok-start g c =
     let m = c.args.member in
-    let tag : c.store_tag.result ≡ tag_of m = c.store_tag.ensures ∙ ap (store_tag m.group) c.public-public.ensures in
+    let tag : c.store_tag.result ≡ tag_of m = c.store_tag.ensures in
     let old = g.D.Disk.state c.args.disk.now in
     let mid = g.D.Disk.state c.open.new.disk in
     let new = g.D.Disk.state c.start.new.disk in
     let st = c.in-Ok.store in
     let h = opened m c.store_tag.result st old mid tag c.in-Ok.ensures.faults c.in-Ok.ensures.settles c.in-Ok.ensures.store c.in-Ok.ensures.any_moment in
-    let is : c.open-signer.result ≡ signer_of m st = c.open-signer.ensures.value ∙ ap (λ k. record (signer_of m st) { key = k }) c.split-tree.ensures.tree in
+    let is : c.open-signer.result ≡ signer_of m st = c.open-signer.ensures.value in
     let next : c.state-next.result.next ≡ st.state.next = ap (λ (s : Stored). s.next) c.state-next.ensures.value in
     let seed : c.nonce_seed.result ≡ nonce_seed m.own.secret st.state.next = c.nonce_seed.ensures ∙ ap (nonce_seed m.own.secret) next in
     let e = c.in-Ok-start.ensures in
@@ -61,13 +60,13 @@ returns-in-Ok-start g c =
 pub returns-in-Err-start : goal.returns-in-Err-start
 returns-in-Err-start g c =
     let m = c.args.member in
-    let tag : c.store_tag.result ≡ tag_of m = c.store_tag.ensures ∙ ap (store_tag m.group) c.public-public.ensures in
+    let tag : c.store_tag.result ≡ tag_of m = c.store_tag.ensures in
     let old = g.D.Disk.state c.args.disk.now in
     let mid = g.D.Disk.state c.open.new.disk in
     let new = g.D.Disk.state c.start.new.disk in
     let st = c.in-Ok.store in
     let h = opened m c.store_tag.result st old mid tag c.in-Ok.ensures.faults c.in-Ok.ensures.settles c.in-Ok.ensures.store c.in-Ok.ensures.any_moment in
-    let is : c.open-signer.result ≡ signer_of m st = c.open-signer.ensures.value ∙ ap (λ k. record (signer_of m st) { key = k }) c.split-tree.ensures.tree in
+    let is : c.open-signer.result ≡ signer_of m st = c.open-signer.ensures.value in
     let e = c.in-Err-start.ensures in
     record {
       opened = rw c.unstarted.ensures (file-started Kept m c.args.name.now old new c.in-Err-start.fault);
