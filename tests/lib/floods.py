@@ -6,6 +6,7 @@ import time
 
 from group import LOOPBACK, bound, end_with_parent
 from kit import HEIGHTS, WIDTHS
+from lines import MOST_BYTES
 from lms import OTS, u16, u32
 
 HEAD = b"\x46\x46\x01"
@@ -51,9 +52,17 @@ def accusation_body(accuser, accused, epoch, ring):
 
 
 def forged_signature(numbers):
-    """One of the right form, so that it is told from a good one at its very end."""
-    ots, tree = WIDTHS[str(numbers.width)], HEIGHTS[str(numbers.height)]
-    return u32(0) + u32(ots) + os.urandom(32 + 32 * OTS[ots][1]) + u32(tree) + os.urandom(32 * numbers.height)
+    """One of the right form, so that it is told from a good one at its very end; of two levels at that of the top key's."""
+    top = forged_by_tree(numbers.width, numbers.height)
+    if numbers.bottom is None:
+        return top
+    below = u32(HEIGHTS[str(numbers.bottom)]) + u32(WIDTHS[str(numbers.width)]) + os.urandom(48)
+    return u32(1) + top + below + forged_by_tree(numbers.width, numbers.bottom)
+
+
+def forged_by_tree(width, height):
+    ots, tree = WIDTHS[str(width)], HEIGHTS[str(height)]
+    return u32(0) + u32(ots) + os.urandom(32 + 32 * OTS[ots][1]) + u32(tree) + os.urandom(32 * height)
 
 
 # ---- rows of datagrams
@@ -65,7 +74,9 @@ def noise(numbers, members):
 
 
 def forged_notes(numbers, members, count=22):
-    """A datagram of notes in members' names, each newer than theirs and signed by nobody, and no certificate."""
+    """A datagram of notes in members' names, each newer than theirs and signed by nobody, and no certificate; fewer where
+    it doesn't hold so many."""
+    count = min(count, (MOST_BYTES - 8) // (17 + len(forged_signature(numbers))))
     found = [
         (note_body(members[place % len(members)], 1_000_000 + place), forged_signature(numbers)) for place in range(count)
     ]

@@ -13,6 +13,7 @@ import subprocess
 import time
 from collections import Counter
 from dataclasses import dataclass
+from typing import Optional
 
 from lines import Event, JournalReader, Turn
 from lives import Story
@@ -39,7 +40,8 @@ def end_with_parent():
 
 @dataclass(frozen=True)
 class Numbers:
-    """The numbers of a group; a tick in milliseconds."""
+    """The numbers of a group; a tick in milliseconds. With `bottom` the keys of members have two levels, of `height` above
+    trees of so many."""
 
     timeout: int = 40
     period: int = 5
@@ -48,6 +50,7 @@ class Numbers:
     width: int = 8
     height: int = 5
     t: int = 1
+    bottom: Optional[int] = None
 
     @property
     def timeout_seconds(self):
@@ -212,7 +215,7 @@ def tally(lines):
 
 class Group:
     """Nodes with a certificate and a kit each. The members in `outside` are certified too and run no node: their ports are
-    the caller's, and their keys are those given here, or the program's.
+    the caller's, and their keys are those given here, of either kind, or the program's.
 
     `seen_ports` gives, for the members' own ports and a node, the ports that its kit names; without it the members' own."""
 
@@ -236,10 +239,12 @@ class Group:
 
     # ---- keys, certificates and kits
 
-    def text(self, form, *rest):
+    def text(self, form, *rest, bottom=None):
+        """A text with the kinds of the authority's key, or with bottom trees of a member's."""
         n = self.numbers
         group = f"group {n.t} {n.timeout} {n.period} {n.misses} {self.tag.hex()}"
-        return "\n".join([f"fireflies 1 {form}", group, f"kinds {n.width} {n.height}", *rest, "end", ""])
+        kinds = f"kinds {n.width} {n.height}{'' if bottom is None else f' {bottom}'}"
+        return "\n".join([f"fireflies 1 {form}", group, kinds, *rest, "end", ""])
 
     def run(self, word, store, given):
         words = [self.program, word, os.path.join(self.folder, f"{store}.store")]
@@ -248,14 +253,15 @@ class Group:
             raise Trouble(f"{word} of {store} ended with {ended.returncode}: {ended.stdout[-200:]}")
         return ended.stdout
 
-    def make_store(self, name):
+    def make_store(self, name, bottom=None):
         """The secret and the public key of a new store."""
         secret = os.urandom(32).hex()
-        return secret, self.run("store", name, self.text("secret", f"secret {secret}")).split()[1]
+        return secret, self.run("store", name, self.text("secret", f"secret {secret}", bottom=bottom)).split()[1]
 
     def make(self, seen_ports):
         authority, self.authority_key = self.make_store("authority")
-        made = {member: self.make_store(member) for member in self.everybody if self.outside.get(member) is None}
+        own = [member for member in self.everybody if self.outside.get(member) is None]
+        made = {member: self.make_store(member, self.numbers.bottom) for member in own}
         keys = {member: key for member, (_, key) in made.items()}
         keys.update({member: key.hex() for member, key in self.outside.items() if key is not None})
 
@@ -270,7 +276,7 @@ class Group:
     def write_kit(self, member, secret, certificates):
         head = [f"self {member} {secret}", f"authority {self.authority_key}", f"tick {self.numbers.tick}"]
         with open(os.path.join(self.folder, f"{member}.kit"), "w") as kit:
-            kit.write(self.text("kit", *head, *certificates))
+            kit.write(self.text("kit", *head, *certificates, bottom=self.numbers.bottom))
 
     # ---- lives
 

@@ -25,9 +25,11 @@ const SECRET: [u8; 32] = [0; 32];
 
 impl Directory {
     /// The authority certifies these keys, each with its member's number.
-    pub fn make(alloc: Global, keys: &[(MemberId, PublicKey)]) -> Result<Directory> {
+    pub fn make(alloc: Global, keys: &[(MemberId, Key)]) -> Result<Directory> {
         let mut disk = new_disk(alloc)?;
-        let authority = make_store(alloc, &SECRET, &mut disk)?;
+        let Key::Lms(authority) = make_store(alloc, &SECRET, &mut disk)? else {
+            return Err(anyhow!("an authority's key has one level"));
+        };
         let mut signer = open(alloc, &SECRET, &mut disk)?.signer;
         let mut certificates = Vec::new(alloc);
         for (member, key) in keys {
@@ -35,7 +37,7 @@ impl Directory {
             let cert = CertBody {
                 member: *member,
                 port: 20_000 + member.get(),
-                key: Key::Lms(*key),
+                key: *key,
             };
             let signed = signer.sign_certificate(alloc, &mut disk, cert)?;
             let mut bytes = Vec::new(alloc);

@@ -1,16 +1,19 @@
-//! The group, and keys with the stores that keep a leaf from signing twice.
+//! The group, and keys with the stores that keep an index from signing twice.
 
 ghost use Rattle.std.specs.Prelude.{◌≡◌, IfOk, false};
-ghost use Rattle.lms_tree.specs.Lms.{public_of};
-ghost use Rattle.example_node.specs.declared.keys.TheConstants.{GROUP};
+ghost use Rattle.secrets.specs.Secrets.{key_from};
+ghost use Rattle.sign_keys.specs.Keys.{IsNew, public_key};
+ghost use Rattle.example_node.specs.declared.keys.TheConstants.{GROUP, KINDS};
 
 use anyhow::{Result, anyhow};
 use epoch_store::{Store, make};
 use ff_ids::{Group, Mask};
 use lms_ots::OtsKind;
-use lms_tree::{PublicKey, SecretKey, TreeKind};
+use lms_tree::TreeKind;
 use ports::MemoryDisk;
+use records::Key;
 use secrets::{make_key, nonce_seed, store_tag};
+use sign_keys::{Kinds, SignKey};
 use signer::Signer;
 use std::alloc::Global;
 
@@ -24,6 +27,13 @@ pub const GROUP: Group = Group {
     misses: 2,
 };
 
+/// The kinds of each key: one tree of 32 one-time keys. With `bottom`, a key has two levels, and so many more indexes.
+const KINDS: Kinds = Kinds {
+    ots: OtsKind::W4,
+    tree: TreeKind::H5,
+    bottom: None,
+};
+
 /// The mask that enables all three rings.
 const ALL_RINGS: Mask = Mask(7);
 
@@ -35,42 +45,43 @@ pub fn new_disk(alloc: Global) -> Result<MemoryDisk> {
     MemoryDisk::new(alloc, 700, 200, Vec::new(alloc)).or(Err(anyhow!("no memory for a disk")))
 }
 
-/// The key of a secret: 32 leaves, each of which signs once. The same secret gives the same key at each start.
-fn key_of(alloc: Global, secret: &[u8; 32]) -> Result<SecretKey> {
-    make_key(alloc, OtsKind::W4, TreeKind::H5, secret).or(Err(anyhow!("no memory for a key")))
+/// The key of a secret: 32 indexes, each of which signs once. The same secret gives the same key at each start.
+fn key_of(alloc: Global, secret: &[u8; 32]) -> Result<SignKey>
+    ensures { IfOk result (λ key. IsNew key (key_from KINDS secret.now)) }
+{
+    make_key(alloc, KINDS, secret).or(Err(anyhow!("no memory for a key")))
 }
 
 /// Makes the store of a key that has never signed. Once for each secret, and never again.
-pub fn make_store(alloc: Global, secret: &[u8; 32], disk: &mut MemoryDisk) -> Result<PublicKey> {
-    let public = key_of(alloc, secret)?.public();
-    make(disk, STORE, &store_tag(&GROUP, &public), ALL_RINGS)?;
-    Ok(public)
+pub fn make_store(alloc: Global, secret: &[u8; 32], disk: &mut MemoryDisk) -> Result<Key> {
+    let key = key_of(alloc, secret)?;
+    make(disk, STORE, &store_tag(&GROUP, &key), ALL_RINGS)?;
+    Ok(key.public())
 }
 
 /// A key that signs over its store.
 #[derive(Drop)]
 pub struct Opened {
     pub signer: Signer,
-    pub public: PublicKey,
+    pub public: Key,
     pub nonce_seed: [u8; 32],
 }
 
-/// Opens the store: the key goes on at the first leaf that is not spent.
+/// Opens the store: the key goes on at the first index that is not spent.
 pub fn open(alloc: Global, secret: &[u8; 32], disk: &mut MemoryDisk) -> Result<Opened>
     ensures group { IfOk result (λ o. o.signer.group ≡ GROUP) }
-    ensures key { IfOk result (λ o. o.public ≡ public_of o.signer.key) }
+    ensures key { IfOk result (λ o. o.public ≡ public_key o.signer.key) }
     ensures open { IfOk result (λ o. o.signer.closed ≡ false) }
 {
     let key = key_of(alloc, secret)?;
     let public = key.public();
-    let (tree, leaves) = key.split();
-    let store = Store::open(disk, STORE, &store_tag(&GROUP, &public))?;
+    let store = Store::open(disk, STORE, &store_tag(&GROUP, &key))?;
     let next = store.state().next;
-    if next > public.tree.leaf_count() {
+    if next > key.index_count() {
         return Err(anyhow!("the store is of a longer key"));
     }
     Ok(Opened {
-        signer: Signer::open(GROUP, tree, leaves, store),
+        signer: Signer::open(GROUP, key, store),
         public,
         nonce_seed: nonce_seed(secret, next),
     })

@@ -4,7 +4,6 @@ use crate::certificates::Directory;
 use crate::keys::{GROUP, Opened, make_store, new_disk, open};
 use anyhow::{Result, ensure};
 use ff_ids::MemberId;
-use lms_tree::PublicKey;
 use membership::Membership;
 use node_core::{Events, Kit, Node, Outbox};
 use ports::MemoryDisk;
@@ -39,7 +38,7 @@ fn secret_of(number: MemberId) -> [u8; 32] {
 }
 
 /// Makes the member's key and, on a new disk, its store.
-pub fn enroll(alloc: Global, number: MemberId) -> Result<(PublicKey, MemoryDisk)> {
+pub fn enroll(alloc: Global, number: MemberId) -> Result<(Key, MemoryDisk)> {
     let mut disk = new_disk(alloc)?;
     let public = make_store(alloc, &secret_of(number), &mut disk)?;
     Ok((public, disk))
@@ -65,10 +64,7 @@ impl Member {
             certificates: directory.check(alloc)?,
             nonce_seed,
         };
-        ensure!(
-            kit.is_sound(&Key::Lms(public)),
-            "no certificate of this member's key"
-        );
+        ensure!(kit.is_sound(&public), "no certificate of this member's key");
         let mut answer = Answer::new(alloc);
         let node = Node::start(alloc, kit, signer, &mut disk, &mut answer.events)?;
         Ok((Member { number, node, disk }, answer))

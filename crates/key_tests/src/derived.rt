@@ -1,9 +1,12 @@
 //! Values of another implementation, for the tag of zeros.
 
-use ff_ids::Group;
+use ff_ids::{Group, KeyBytes};
 use lms_ots::OtsKind;
 use lms_tree::TreeKind;
 use secrets::{make_key, nonce_seed, store_tag, world_secret};
+use sign_keys::Kinds;
+use std::alloc::Global;
+use std::process::Abort;
 use std::test::Fail;
 
 const SECRET_OF_1: [u8; 32] =
@@ -12,20 +15,70 @@ const SECRET_OF_1: [u8; 32] =
 const KEY_OF_1: [u8; 56] =
     *b"\x00\x00\x00\x05\x00\x00\x00\x02\x63\x00\xc9\x57\x19\xa9\xfe\x3c\x48\x6e\x88\x9c\x7a\xdc\x37\x0e\x44\x70\x97\xd9\x46\x98\xe1\x3f\xf9\xcc\xff\xdc\xff\xae\x03\x9f\x94\xb4\xdf\x48\x0f\xa4\x15\xd9\xd6\xe0\x0e\x51\x47\x6c\x4e\x30";
 
+/// The same secret's key of two levels, of W4 under a top tree of height 5.
+const PAIR_OF_1: [u8; 60] =
+    *b"\x00\x00\x00\x02\x00\x00\x00\x05\x00\x00\x00\x03\x63\x00\xc9\x57\x19\xa9\xfe\x3c\x48\x6e\x88\x9c\
+    \x7a\xdc\x37\x0e\x1b\xcc\xb5\x9e\xc1\x4a\xc9\xf6\x4a\x2b\x21\xdc\x0a\x41\xe6\xcf\x55\x5b\x33\x75\
+    \x0f\x13\xbe\xb3\x02\x8d\xa5\x9e\x2b\x06\x6e\x7b";
+
+const GROUP: Group = Group {
+    tag: [0; 16],
+    t: 1,
+    timeout: 4,
+    period: 1,
+    misses: 2,
+};
+
+/// Kinds, the public key, and the mark of its store in the group: it tells the heights of bottom trees apart.
+const KEYS: [(Kinds, KeyBytes, [u8; 32]); 3] = [
+    (
+        Kinds {
+            ots: OtsKind::W2,
+            tree: TreeKind::H5,
+            bottom: None,
+        },
+        KeyBytes::Lms(KEY_OF_1),
+        *b"\xd2\xe8\xfd\x30\x23\x19\x47\x8c\xcf\x96\xe1\xf0\x72\xee\xcb\x11\xcc\xc2\xcc\x03\x46\xe6\xfa\xc5\xcf\x9f\x09\x93\x05\x30\xfe\x9a",
+    ),
+    (
+        Kinds {
+            ots: OtsKind::W4,
+            tree: TreeKind::H5,
+            bottom: Some(TreeKind::H5),
+        },
+        KeyBytes::Hss(PAIR_OF_1),
+        *b"\xc7\x77\x70\xb0\x73\xf1\xff\x4e\xed\x91\x85\x78\x85\x8d\xb2\xd4\xad\x18\xe7\xa0\xbb\x9a\x91\x12\xb6\xcf\xb8\x9b\xc0\xd4\x1c\xb8",
+    ),
+    (
+        Kinds {
+            ots: OtsKind::W4,
+            tree: TreeKind::H5,
+            bottom: Some(TreeKind::H10),
+        },
+        KeyBytes::Hss(PAIR_OF_1),
+        *b"\xc9\x3e\xb9\x26\x65\xbc\x63\x56\xe5\xf3\x4d\x92\xcd\x3b\x56\xe3\x41\x88\x65\x27\xff\x3f\x58\x70\xfb\xf1\xde\x26\xf9\x75\x5d\x1a",
+    ),
+];
+
+fn compare(
+    rt: &impl Abort,
+    alloc: Global,
+    kinds: Kinds,
+    public: &KeyBytes,
+    tag: &[u8; 32],
+) -> Result<(), Fail> {
+    assert!(rt; kinds.is_in_profile());
+    let made = make_key(alloc, kinds, &SECRET_OF_1)?;
+    assert_eq!(rt; made.public().write(), *public);
+    assert_eq!(rt; store_tag(&GROUP, &made), *tag);
+    Ok(())
+}
+
 #[test]
 fn a_secret_gives_a_key(rt: HostRuntime) -> Result<(), Fail> {
-    let made = make_key(rt.alloc(), OtsKind::W2, TreeKind::H5, &SECRET_OF_1)?;
-    assert_eq!(rt; made.public().write(), KEY_OF_1);
-    let group = Group {
-        tag: [0; 16],
-        t: 1,
-        timeout: 4,
-        period: 1,
-        misses: 2,
-    };
-    let tag =
-        *b"\xd2\xe8\xfd\x30\x23\x19\x47\x8c\xcf\x96\xe1\xf0\x72\xee\xcb\x11\xcc\xc2\xcc\x03\x46\xe6\xfa\xc5\xcf\x9f\x09\x93\x05\x30\xfe\x9a";
-    assert_eq!(rt; store_tag(&group, &made.public()), tag);
+    for (kinds, public, tag) in &KEYS {
+        compare(&rt, rt.alloc(), *kinds, public, tag)?;
+    }
     Ok(())
 }
 

@@ -7,7 +7,7 @@ mod scene;
 ghost use Rattle.std.specs.Prelude.{◌≡◌};
 ghost use Rattle.records.specs.Spelling.{HasPort};
 
-use ff_ids::Fault;
+use ff_ids::{Fault, KeyBytes};
 use keys::{AUTHORITY, Key};
 use records::Body;
 use scene::{Scene, TAG, accusation, certificate, note};
@@ -223,7 +223,7 @@ fn fault_of_other(
 }
 
 fn compare_others(rt: &impl Abort, alloc: Global, scene: &mut Scene) -> Result<(), Fail> {
-    let kept = scene.key(2)?.write();
+    let kept = KeyBytes::Lms(scene.key(2)?.write());
     for (port, key, by) in OTHERS {
         let wanted = Fault::OtherCertificate {
             port: 20_002,

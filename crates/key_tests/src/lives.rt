@@ -5,6 +5,7 @@ use fields::Reader;
 use lms_ots::OtsKind;
 use lms_tree::TreeKind;
 use records::{Checked, Record, signed_bytes};
+use sign_keys::Kinds;
 use signer::key_lives::{Act, Holder, play};
 use std::alloc::Global;
 use std::test::Fail;
@@ -34,8 +35,11 @@ const OPEN_OTHER: Act = Act::Open(OTHER_GROUP, OTHER_TAG);
 const MOVE: Act = Act::Move(TAG, OTHER_TAG, Mask(31));
 
 const HOLDER: Holder = Holder {
-    tree: TreeKind::H5,
-    ots: OtsKind::W2,
+    kinds: Kinds {
+        ots: OtsKind::W2,
+        tree: TreeKind::H5,
+        bottom: None,
+    },
     id: [1; 16],
     seed: [2; 32],
 };

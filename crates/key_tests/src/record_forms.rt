@@ -5,6 +5,7 @@ ghost use Rattle.records.specs.Spelling.{IsWritable, HasPort};
 
 use ff_ids::{AccBody, Epoch, Mask, MemberId, NoteBody, RingNo};
 use fields::Bytes;
+use hss::HssKey;
 use lms_ots::OtsKind;
 use lms_tree::{PublicKey, TreeKind};
 use records::{Body, CertBody, FormFault, Key, Record, read_record, write_record, *};
@@ -42,19 +43,29 @@ fn accusation() -> Body
     })
 }
 
-fn certificate() -> Body
+/// The key of one level of the records.
+const KEY: PublicKey = PublicKey {
+    tree: TreeKind::H5,
+    ots: OtsKind::W8,
+    id: [7; 16],
+    root: [9; 32],
+};
+
+fn certificate(key: Key) -> Body
     ensures { HasPort result }
 {
     Body::Certificate(CertBody {
         member: MemberId::new(2),
         port: 20002,
-        key: Key::Lms(PublicKey {
-            tree: TreeKind::H5,
-            ots: OtsKind::W8,
-            id: [7; 16],
-            root: [9; 32],
-        }),
+        key,
     })
+}
+
+/// The certificate of a key of two levels.
+fn two_level_certificate() -> Body
+    ensures { HasPort result }
+{
+    certificate(Key::Hss(HssKey { top: KEY }))
 }
 
 /// The greatest of the places that isn't above the cut.
@@ -126,13 +137,45 @@ fn records_are_read_back_and_no_cut_of_them(rt: HostRuntime) -> Result<(), Fail>
         read_back(&rt, alloc, note(Mask(mask)), &[0, 1, 3, 11, 19, 21])?;
     }
     read_back(&rt, alloc, accusation(), &[0, 1, 3, 5, 13, 14, 16])?;
-    read_back(&rt, alloc, certificate(), &[0, 1, 3, 5, 9, 13, 29, 61, 63])
+    read_back(
+        &rt,
+        alloc,
+        certificate(Key::Lms(KEY)),
+        &[0, 1, 3, 5, 9, 13, 29, 61, 63],
+    )?;
+    read_back(
+        &rt,
+        alloc,
+        two_level_certificate(),
+        &[0, 1, 3, 5, 9, 13, 17, 33, 65, 67],
+    )
+}
+
+#[test]
+fn a_certificate_is_of_the_kind_of_its_key(rt: HostRuntime) -> Result<(), Fail> {
+    let one = written(rt.alloc(), certificate(Key::Lms(KEY)))?;
+    assert_eq!(rt;
+        one.as_slice(),
+        b"\x01\x00\x02\x4e\x22\x00\x00\x00\x05\x00\x00\x00\x04\
+\x07\x07\x07\x07\x07\x07\x07\x07\x07\x07\x07\x07\x07\x07\x07\x07\
+\t\t\t\t\t\t\t\t\t\t\t\t\t\t\t\t\t\t\t\t\t\t\t\t\t\t\t\t\t\t\t\t\x00\x05\xa5\xa5\xa5\xa5\xa5"
+            .as_slice()
+    );
+    let two = written(rt.alloc(), two_level_certificate())?;
+    assert_eq!(rt;
+        two.as_slice(),
+        b"\x05\x00\x02\x4e\x22\x00\x00\x00\x02\x00\x00\x00\x05\x00\x00\x00\x04\
+\x07\x07\x07\x07\x07\x07\x07\x07\x07\x07\x07\x07\x07\x07\x07\x07\
+\t\t\t\t\t\t\t\t\t\t\t\t\t\t\t\t\t\t\t\t\t\t\t\t\t\t\t\t\t\t\t\t\x00\x05\xa5\xa5\xa5\xa5\xa5"
+            .as_slice()
+    );
+    Ok(())
 }
 
 /// What stands in front of the fault, up to its end, and the place of the fault.
-const FAULTS: [(&[u8], usize); 21] = [
+const FAULTS: [(&[u8], usize); 28] = [
     (b"\x00", 0),
-    (b"\x05", 0),
+    (b"\x06", 0),
     // members 1,024
     (b"\x01\x04\x00", 1),
     (b"\x02\x04\x00", 1),
@@ -147,6 +190,24 @@ const FAULTS: [(&[u8], usize); 21] = [
     (b"\x01\x00\x02\x4e\x22\x00\x00\x00\x08", 5),
     (b"\x01\x00\x02\x4e\x22\x00\x00\x00\x05\x00\x00\x00\x05", 9),
     (b"\x01\x00\x02\x4e\x22\x00\x00\x00\x05\x00\x00\x00\x00", 9),
+    // a key of two levels in a certificate of kind 1, and one of one level, here a whole certificate, in one of kind 5;
+    // one and three levels; a tree of type 4; W2 and W1
+    (b"\x01\x00\x02\x4e\x22\x00\x00\x00\x02\x00\x00\x00\x05", 5),
+    (
+        b"\x05\x00\x02\x4e\x22\x00\x00\x00\x05\x00\x00\x00\x04iiiiiiiiiiiiiiiirrrrrrrrrrrrrrrrrrrrrrrrrrrrrrrr\x00\x05sssss",
+        5,
+    ),
+    (b"\x05\x00\x02\x4e\x22\x00\x00\x00\x01\x00\x00\x00\x05", 5),
+    (b"\x05\x00\x02\x4e\x22\x00\x00\x00\x03\x00\x00\x00\x05", 5),
+    (b"\x05\x00\x02\x4e\x22\x00\x00\x00\x02\x00\x00\x00\x04", 9),
+    (
+        b"\x05\x00\x02\x4e\x22\x00\x00\x00\x02\x00\x00\x00\x05\x00\x00\x00\x02",
+        13,
+    ),
+    (
+        b"\x05\x00\x02\x4e\x22\x00\x00\x00\x02\x00\x00\x00\x05\x00\x00\x00\x01",
+        13,
+    ),
     // masks of eight bytes that four hold
     (
         b"\x04\x00\x02\x00\x00\x00\x00\x00\x00\x00\x01\x00\x00\x00\x00\x00\x00\x00\x07",

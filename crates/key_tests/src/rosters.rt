@@ -7,7 +7,7 @@ mod signatures;
 ghost use Rattle.std.specs.Prelude.{◌≡◌};
 ghost use Rattle.records.specs.Spelling.{HasPort};
 
-use ff_ids::{AccBody, Epoch, Fault, MemberId, RingNo};
+use ff_ids::{AccBody, Epoch, Fault, KeyBytes, MemberId, RingNo};
 use records::Body;
 use ring_order::{hash_places, key_order};
 use scene::{Scene, certificate, group, note, record};
@@ -83,7 +83,7 @@ fn a_certificate_is_compared_with_the_one_kept(rt: HostRuntime) -> Result<(), Fa
     let same = Body::Certificate(certificate(2, 20002, &KEY_OF_2));
     compare(&rt, rt.alloc(), same, b"", Some(Fault::Known))?;
     let other = Body::Certificate(certificate(2, 20009, &KEY_OF_2));
-    let key = KEY_OF_2.write();
+    let key = KeyBytes::Lms(KEY_OF_2.write());
     let fault = Fault::OtherCertificate { port: 20002, key };
     compare(&rt, rt.alloc(), other, b"", Some(fault))
 }

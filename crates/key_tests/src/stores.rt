@@ -1,11 +1,13 @@
 //! Disks in memory under stores and signers.
 
 mod moves;
+mod pairs;
 mod plain;
 mod widths;
 
 ghost use Rattle.std.specs.Prelude.{◌≡◌, ◌<◌, IfOk, length};
 ghost use Rattle.epoch_store.specs.Store.{IsEntry};
+ghost use Rattle.sign_keys.specs.Keys.{IsOfOneKey, next_of};
 
 use epoch_store::{Store, StoreError, Stored, make};
 use ff_ids::{AccBody, Epoch, Group, Mask, MemberId, RingNo};
@@ -15,6 +17,7 @@ use lms_tree::{SecretKey, TreeKind};
 use plain::state_of;
 use ports::{Disk, Failed, MemoryDisk};
 use records::{Body, CertBody, Checked, Key};
+use sign_keys::SignKey;
 use signer::{SignFault, Signer};
 use std::alloc::Global;
 use std::process::Abort;
@@ -325,19 +328,27 @@ fn group() -> Group {
     }
 }
 
-/// The signer of the one key of these trials, over the store in the disk's file.
-fn open_signer(alloc: Global, disk: &mut MemoryDisk) -> Result<Option<Signer>, Fail> {
+/// A signer of the key over the store in the disk's file, unless the disk failed.
+fn open_with(disk: &mut MemoryDisk, key: SignKey) -> Result<Option<Signer>, Fail>
+    requires one { IsOfOneKey key }
+    requires new { next_of key ≡ 0 }
+{
     let store = match Store::open(disk, NAME, &TAG) {
         Ok(store) => store,
         Err(StoreError::Fault) => return Ok(None),
         Err(_) => return Err("the file is no store".into()),
     };
-    if store.state().next > 32 {
+    if store.state().next > key.index_count() {
         return Err("a next index that the key has not".into());
     }
+    Ok(Some(Signer::open(group(), key, store)))
+}
+
+/// The signer of the one key of these trials, over the store in the disk's file.
+fn open_signer(alloc: Global, disk: &mut MemoryDisk) -> Result<Option<Signer>, Fail> {
     let key = SecretKey::make(alloc, TreeKind::H5, OtsKind::W4, [1; 16], [2; 32]).or(Err("key"))?;
     let (tree, leaves) = key.split();
-    Ok(Some(Signer::open(group(), tree, leaves, store)))
+    open_with(disk, SignKey::Lms(tree, leaves))
 }
 
 /// The greatest index and the greatest epoch that were handed out, if any was.
@@ -563,21 +574,14 @@ fn use_up(
     Ok(())
 }
 
-/// The certificate of the key of these trials.
-fn certificate(alloc: Global) -> Result<CertBody, Fail>
-    ensures { IfOk result (λ cert. 0 < cert.port) }
-{
+/// What is kept once all leaves of the key are spent, and what signing answers then.
+fn used_up(alloc: Global, disk: &mut MemoryDisk) -> Result<(Stored, SignFault), Fail> {
     let key = SecretKey::make(alloc, TreeKind::H5, OtsKind::W4, [1; 16], [2; 32]).or(Err("key"))?;
-    Ok(CertBody {
+    let cert = CertBody {
         member: MemberId::new(1),
         port: 20_001,
         key: Key::Lms(key.public()),
-    })
-}
-
-/// What is kept once all leaves of the key are spent, and what signing answers then.
-fn used_up(alloc: Global, disk: &mut MemoryDisk) -> Result<(Stored, SignFault), Fail> {
-    let cert = certificate(alloc)?;
+    };
     let mut signer = open_signer(alloc, disk)?.ok_or("open")?;
     use_up(alloc, &mut signer, disk, &cert)?;
     let fault = fault_of(alloc, &mut signer, disk)?;

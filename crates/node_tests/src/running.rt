@@ -3,37 +3,33 @@
 ghost use Rattle.std.specs.Prelude.{◌<◌};
 ghost use Rattle.ports.specs.MemoryClock.{NeverFalls};
 
+mod crossing;
+mod kits;
+
 use epoch_store::make;
-use ff_ids::{Group, Mask, MemberId};
-use fixtures::{AUTHORITY, Key, Kinds, failing_source, sink};
+use ff_ids::Mask;
+use fixtures::{Kinds, failing_source, sink};
 use journal::{Event, EventFault, Turn, read_event, read_turn, write_event, write_turn};
+use kits::{HEAD, kit, mark_of_1};
 use line_text::BadWord;
 use lms_ots::OtsKind;
-use lms_tree::{PublicKey, TreeKind};
+use lms_tree::TreeKind;
 use node_command::{NodeHalt, Stay, run_node};
 use ports::{LinkAnswer, MemoryClock, MemoryDisk, MemoryLink, MemorySink};
-use records::{Body, CertBody};
-use secrets::{store_tag, world_secret};
 use std::alloc::Global;
 use std::process::Abort;
 use std::test::Fail;
 
 const NAME: &str = "n.st";
 
-const GROUP: Group = Group {
-    tag: [0; 16],
-    t: 1,
-    timeout: 4,
-    period: 1,
-    misses: 2,
-};
-
 const KINDS: Kinds = Kinds {
-    tree: TreeKind::H5,
     ots: OtsKind::W1,
+    tree: TreeKind::H5,
+    bottom: None,
 };
 
-const HEAD: &str = "fireflies 1 kit\ngroup 1 4 1 2 00000000000000000000000000000000\nkinds 1 5\n";
+/// The line of these kinds.
+const LINE: &str = "kinds 1 5\n";
 
 /// The journal of a life that hears nothing and is alone, in two turns, without its last line.
 const ALONE: &[u8] =
@@ -42,73 +38,6 @@ const ALONE: &[u8] =
 /// The same of one that leaves behind them, with its last line.
 const LEFT: &[u8] =
     b"at 0 spent 0 note 1 1 7\nat 0 entered 1\nturn 1 nothing ticks 0\nturn 2 nothing ticks 2\nat 2 spent 1 note 1 2 0\nat 2 removed 1\nend\n";
-
-/// The digits of the authority's signature under the certificate of this member, which has this key, and the port 20,000 and
-/// its number.
-fn signature_digits(
-    alloc: Global,
-    authority: &mut Key,
-    number: u16,
-    key: PublicKey,
-) -> Result<String, Fail>
-    requires { number < 1024 }
-{
-    let cert = CertBody {
-        member: MemberId::new(number),
-        port: 20_000 + number,
-        key: records::Key::Lms(key),
-    };
-    let checked = authority.sign(alloc, &GROUP, Body::Certificate(cert))?;
-    Ok(hex::encode(alloc, checked.rec().signature.as_slice())?)
-}
-
-/// The line of the certificate of this member.
-fn cert_line(alloc: Global, authority: &mut Key, number: u16) -> Result<String, Fail>
-    requires { number < 1024 }
-{
-    let key = Key::of(alloc, &GROUP.tag, number, KINDS)?.public();
-    let signature = signature_digits(alloc, authority, number, key)?;
-    let digits = hex::encode(alloc, key.write().as_slice())?;
-    let port = 20_000 + number;
-    Ok(format!(in alloc; "cert {number} {port} {digits} {signature}\n")?)
-}
-
-/// The lines of the text of member 1 before those of the certificates, which this key signs.
-fn own_lines(alloc: Global, authority: &PublicKey) -> Result<String, Fail> {
-    let secret = hex::encode(alloc, world_secret(&GROUP.tag, 1).as_slice())?;
-    let key = hex::encode(alloc, authority.write().as_slice())?;
-    Ok(format!(in alloc; "{HEAD}self 1 {secret}\nauthority {key}\ntick 100\n")?)
-}
-
-/// Appends the certificates of member 1 and of so many others, and the end.
-fn push_certs(
-    alloc: Global,
-    authority: &mut Key,
-    others: u16,
-    text: &mut String,
-) -> Result<(), Fail>
-    requires { others < 1000 }
-{
-    for other in 0..others + 1 {
-        text.push_str(&cert_line(alloc, authority, other + 1)?)?;
-    }
-    Ok(text.push_str("end\n")?)
-}
-
-/// The text of member 1, with the certificates of it and of so many others.
-fn kit(alloc: Global, others: u16) -> Result<String, Fail>
-    requires { others < 1000 }
-{
-    let mut authority = Key::of(alloc, &GROUP.tag, AUTHORITY, KINDS)?;
-    let mut text = own_lines(alloc, &authority.public())?;
-    push_certs(alloc, &mut authority, others, &mut text)?;
-    Ok(text)
-}
-
-/// The key of member 1.
-fn key_of_1(alloc: Global) -> Result<PublicKey, Fail> {
-    Ok(Key::of(alloc, &GROUP.tag, 1, KINDS)?.public())
-}
 
 /// The disk and the link over which member 1 is run.
 #[derive(Drop)]
@@ -130,21 +59,21 @@ fn bare_host(
     Ok(Host { disk, link })
 }
 
-/// Makes the store of the member with this key.
-fn make_store(disk: &mut MemoryDisk, key: &PublicKey) -> Result<(), Fail> {
-    Ok(make(disk, NAME, &store_tag(&GROUP, key), Mask(7)).or(Err("no store"))?)
+/// Makes a store with this mark.
+fn make_store(disk: &mut MemoryDisk, mark: &[u8; 32]) -> Result<(), Fail> {
+    Ok(make(disk, NAME, mark, Mask(7)).or(Err("no store"))?)
 }
 
-/// The same where the store of the member with this key was made, by the first calls of the disk.
+/// The same where a store with this mark was made, by the first calls of the disk.
 fn host_of(
     alloc: Global,
-    key: &PublicKey,
+    mark: &[u8; 32],
     fail: &[u64],
     fail_sends: &[u64],
     fail_bind: bool,
 ) -> Result<Host, Fail> {
     let mut host = bare_host(alloc, fail, fail_sends, fail_bind)?;
-    make_store(&mut host.disk, key)?;
+    make_store(&mut host.disk, mark)?;
     Ok(host)
 }
 
@@ -182,7 +111,7 @@ fn run(alloc: Global, text: &str, host: &mut Host) -> Result<Ran, Fail> {
 fn run_among(alloc: Global, others: u16, host: &mut Host) -> Result<Ran, Fail>
     requires { others < 1000 }
 {
-    run(alloc, &kit(alloc, others)?, host)
+    run(alloc, &kit(alloc, KINDS, LINE, others)?, host)
 }
 
 fn is_alone(rt: &impl Abort, alloc: Global, host: &mut Host) -> Result<(), Fail> {
@@ -196,14 +125,14 @@ fn is_alone(rt: &impl Abort, alloc: Global, host: &mut Host) -> Result<(), Fail>
 
 #[test]
 fn a_member_alone_writes_its_journal(rt: HostRuntime) -> Result<(), Fail> {
-    let mut host = host_of(rt.alloc(), &key_of_1(rt.alloc())?, &[], &[], false)?;
+    let mut host = host_of(rt.alloc(), &mark_of_1(rt.alloc(), KINDS)?, &[], &[], false)?;
     let done = is_alone(&rt, rt.alloc(), &mut host);
     drop(host);
     done
 }
 
 fn is_left(rt: &impl Abort, alloc: Global, host: &mut Host) -> Result<(), Fail> {
-    let ran = run_to(alloc, true, &kit(alloc, 0)?, host)?;
+    let ran = run_to(alloc, true, &kit(alloc, KINDS, LINE, 0)?, host)?;
     assert_eq!(rt; ran.done, Ok(()));
     assert_eq!(rt; ran.out.bytes(), LEFT);
     assert_eq!(rt; host.link.sent().len(), 0);
@@ -212,7 +141,7 @@ fn is_left(rt: &impl Abort, alloc: Global, host: &mut Host) -> Result<(), Fail> 
 
 #[test]
 fn a_member_alone_leaves_behind_its_turns(rt: HostRuntime) -> Result<(), Fail> {
-    let mut host = host_of(rt.alloc(), &key_of_1(rt.alloc())?, &[], &[], false)?;
+    let mut host = host_of(rt.alloc(), &mark_of_1(rt.alloc(), KINDS)?, &[], &[], false)?;
     let done = is_left(&rt, rt.alloc(), &mut host);
     drop(host);
     done
@@ -299,7 +228,7 @@ fn says(
 fn life_says(rt: &impl Abort, alloc: Global, others: u16, wanted: &[Said]) -> Result<(), Fail>
     requires { others < 1000 }
 {
-    let mut host = host_of(alloc, &key_of_1(alloc)?, &[], &[0], false)?;
+    let mut host = host_of(alloc, &mark_of_1(alloc, KINDS)?, &[], &[0], false)?;
     let done = says(rt, alloc, others, &mut host, wanted);
     drop(host);
     done
@@ -345,14 +274,20 @@ fn halts(
 }
 
 fn leaves_all(rt: &impl Abort, alloc: Global, host: &mut Host) -> Result<(), Fail> {
-    halts(rt, alloc, &kit(alloc, 0)?, host, NodeHalt::LinkFault)?;
+    halts(
+        rt,
+        alloc,
+        &kit(alloc, KINDS, LINE, 0)?,
+        host,
+        NodeHalt::LinkFault,
+    )?;
     assert_eq!(rt; host.disk.image().len(), 58);
     Ok(())
 }
 
 #[test]
 fn a_port_that_is_taken_leaves_all(rt: HostRuntime) -> Result<(), Fail> {
-    let mut host = host_of(rt.alloc(), &key_of_1(rt.alloc())?, &[4], &[], true)?;
+    let mut host = host_of(rt.alloc(), &mark_of_1(rt.alloc(), KINDS)?, &[4], &[], true)?;
     let done = leaves_all(&rt, rt.alloc(), &mut host);
     drop(host);
     done
@@ -362,11 +297,11 @@ fn a_port_that_is_taken_leaves_all(rt: HostRuntime) -> Result<(), Fail> {
 fn halts_at(
     rt: &impl Abort,
     alloc: Global,
-    key: &PublicKey,
+    mark: &[u8; 32],
     text: &str,
     call: u64,
 ) -> Result<(), Fail> {
-    let mut host = host_of(alloc, key, &[call], &[], false)?;
+    let mut host = host_of(alloc, mark, &[call], &[], false)?;
     let done = halts(rt, alloc, text, &mut host, NodeHalt::StoreFault);
     drop(host);
     done
@@ -383,11 +318,11 @@ fn ends(rt: &impl Abort, alloc: Global, text: &str, host: &mut Host) -> Result<(
 fn ends_at(
     rt: &impl Abort,
     alloc: Global,
-    key: &PublicKey,
+    mark: &[u8; 32],
     text: &str,
     call: u64,
 ) -> Result<(), Fail> {
-    let mut host = host_of(alloc, key, &[call], &[], false)?;
+    let mut host = host_of(alloc, mark, &[call], &[], false)?;
     let done = ends(rt, alloc, text, &mut host);
     drop(host);
     done
@@ -396,12 +331,12 @@ fn ends_at(
 #[test]
 fn a_disk_that_fails_ends_the_life_before_it_begins(rt: HostRuntime) -> Result<(), Fail> {
     let alloc = rt.alloc();
-    let key = key_of_1(alloc)?;
-    let text = kit(alloc, 0)?;
+    let mark = mark_of_1(alloc, KINDS)?;
+    let text = kit(alloc, KINDS, LINE, 0)?;
     for call in [4u64, 12] {
-        halts_at(&rt, alloc, &key, text.as_str(), call)?;
+        halts_at(&rt, alloc, &mark, text.as_str(), call)?;
     }
-    ends_at(&rt, alloc, &key, text.as_str(), 13)
+    ends_at(&rt, alloc, &mark, text.as_str(), 13)
 }
 
 /// The link was given two datagrams, each for the port of 2.
@@ -425,7 +360,7 @@ fn loses(rt: &impl Abort, alloc: Global, host: &mut Host) -> Result<(), Fail> {
 
 #[test]
 fn a_send_that_fails_is_lost(rt: HostRuntime) -> Result<(), Fail> {
-    let mut host = host_of(rt.alloc(), &key_of_1(rt.alloc())?, &[], &[0], false)?;
+    let mut host = host_of(rt.alloc(), &mark_of_1(rt.alloc(), KINDS)?, &[], &[0], false)?;
     let done = loses(&rt, rt.alloc(), &mut host);
     drop(host);
     done
@@ -434,7 +369,7 @@ fn a_send_that_fails_is_lost(rt: HostRuntime) -> Result<(), Fail> {
 fn refuses(rt: &impl Abort, alloc: Global, host: &mut Host) -> Result<(), Fail> {
     let ran = run(alloc, HEAD, host)?;
     let refused = NodeHalt::Refused {
-        line: 4,
+        line: 3,
         word: BadWord::End,
     };
     assert_eq!(rt; ran.done, Err(refused));
@@ -443,7 +378,7 @@ fn refuses(rt: &impl Abort, alloc: Global, host: &mut Host) -> Result<(), Fail> 
 
 #[test]
 fn a_text_without_its_end_starts_nothing(rt: HostRuntime) -> Result<(), Fail> {
-    let mut host = host_of(rt.alloc(), &key_of_1(rt.alloc())?, &[4], &[], true)?;
+    let mut host = host_of(rt.alloc(), &mark_of_1(rt.alloc(), KINDS)?, &[4], &[], true)?;
     let done = refuses(&rt, rt.alloc(), &mut host);
     drop(host);
     done

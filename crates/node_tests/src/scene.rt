@@ -31,8 +31,9 @@ pub const OTHER: Group = Group {
 };
 
 const KINDS: Kinds = Kinds {
-    tree: TreeKind::H5,
     ots: OtsKind::W1,
+    tree: TreeKind::H5,
+    bottom: None,
 };
 
 pub fn member(number: u8) -> MemberId {

@@ -21,6 +21,8 @@ mod serving;
 #[cfg(test)]
 mod storing;
 #[cfg(test)]
+mod two_levels;
+#[cfg(test)]
 mod verifying;
 #[cfg(test)]
 mod worlds;

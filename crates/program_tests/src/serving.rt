@@ -1,6 +1,8 @@
 //! A member that is run for two turns, over objects in memory.
 
-use crate::members::{First, OfSecond, first_alone, first_of_two, own_disk};
+use crate::members::{
+    First, ONE_LEVEL, OfSecond, TWO_LEVELS, first_alone, first_of_kinds, first_of_two, own_disk,
+};
 use crate::runs::{Run, compare, run_on};
 use fields::Bytes;
 use ports::{LinkAnswer, MemoryClock, MemoryLink};
@@ -97,8 +99,11 @@ fn serves_alone(rt: &impl Abort, alloc: Global, first: &First) -> Result<(), Fai
 
 #[test]
 fn a_member_alone_writes_its_journal(rt: HostRuntime) -> Result<(), Fail> {
-    let first = first_alone(rt.alloc())?;
-    serves_alone(&rt, rt.alloc(), &first)
+    for kinds in [ONE_LEVEL, TWO_LEVELS] {
+        let first = first_of_kinds(rt.alloc(), kinds)?;
+        serves_alone(&rt, rt.alloc(), &first)?;
+    }
+    Ok(())
 }
 
 /// Runs a member that hears nothing, and leaves behind its second turn.
@@ -156,7 +161,7 @@ fn lose_one_and_both(rt: &impl Abort, alloc: Global, first: &First) -> Result<()
 
 #[test]
 fn sends_that_fail_are_lost(rt: HostRuntime) -> Result<(), Fail> {
-    let (first, _) = first_of_two(rt.alloc())?;
+    let first = first_of_two(rt.alloc())?;
     lose_one_and_both(&rt, rt.alloc(), &first)
 }
 
@@ -183,7 +188,7 @@ fn answers_ping(
 
 #[test]
 fn a_receive_that_fails_ends_nothing(rt: HostRuntime) -> Result<(), Fail> {
-    let (first, _) = first_of_two(rt.alloc())?;
+    let first = first_of_two(rt.alloc())?;
     let mut link = failure_and_ping(rt.alloc())?;
     answers_ping(&rt, rt.alloc(), &first, &mut link)
 }
@@ -252,7 +257,7 @@ fn fail_in_answers(
 
 #[test]
 fn a_disk_that_fails_at_a_rebuttal_ends_the_life(rt: HostRuntime) -> Result<(), Fail> {
-    let (first, key) = first_of_two(rt.alloc())?;
-    let second = OfSecond::signed(rt.alloc(), key)?;
+    let first = first_of_two(rt.alloc())?;
+    let second = OfSecond::signed(rt.alloc())?;
     fail_in_answers(&rt, rt.alloc(), &first, &second)
 }

@@ -8,6 +8,7 @@ use lms_ots::OtsKind;
 use lms_tree::TreeKind;
 use ports::MemoryDisk;
 use secrets::{make_key, store_tag};
+use sign_keys::Kinds;
 use std::alloc::Global;
 use std::process::Abort;
 use std::test::Fail;
@@ -193,7 +194,12 @@ fn a_disk_that_fails_at_each_call_of_a_making(rt: HostRuntime) -> Result<(), Fai
 
 /// The mark of the authority's store in a group of this tolerance.
 pub fn tag(alloc: Global, t: u8) -> Result<[u8; 32], Fail> {
-    let key = make_key(alloc, OtsKind::W2, TreeKind::H5, &[0x5a; 32])?.public();
+    let kinds = Kinds {
+        ots: OtsKind::W2,
+        tree: TreeKind::H5,
+        bottom: None,
+    };
+    let key = make_key(alloc, kinds, &[0x5a; 32])?;
     let group = Group {
         tag: [0; 16],
         t,

@@ -4,12 +4,14 @@ use crate::runs::{answers, run_failing, run_on};
 use ff_ids::{Epoch, Group, Mask, MemberId, NoteBody};
 use fields::Bytes;
 use fixtures::disk;
+use hss::HssKey;
 use journal::{read_event, write_event};
 use lms_ots::OtsKind;
-use lms_tree::TreeKind;
+use lms_tree::{PublicKey, TreeKind};
 use ports::{Clock, Disk, Link, LinkAnswer, MemoryClock, MemoryDisk, MemoryLink, Received};
-use records::{Body, Record, signed_bytes, write_record};
+use records::{Body, CertBody, Key, Record, signed_bytes, write_record};
 use secrets::{make_key, world_secret};
+use sign_keys::Kinds;
 use std::alloc::Global;
 use std::process::Abort;
 use std::test::Fail;
@@ -84,9 +86,51 @@ fn what_is_told_in_a_world_is_read(rt: HostRuntime) -> Result<(), Fail> {
     Ok(())
 }
 
-/// A datagram with a note of node 1 that the schedule never signed, as digits.
-#[tactic(auto, unfolding(lms_tree::specs::Lms::public_of))]
-fn forged_note(alloc: Global) -> Result<String, Fail> {
+/// A note of node 1.
+fn note() -> Body {
+    Body::Note(NoteBody {
+        member: MemberId::new(1),
+        epoch: Epoch::new(9),
+        mask: Mask(7),
+    })
+}
+
+/// A certificate of a key of two levels.
+fn certificate() -> Body {
+    Body::Certificate(CertBody {
+        member: MemberId::new(3),
+        port: 65_535,
+        key: Key::Hss(HssKey {
+            top: PublicKey {
+                tree: TreeKind::H5,
+                ots: OtsKind::W4,
+                id: [0xa1; 16],
+                root: [0xb2; 32],
+            },
+        }),
+    })
+}
+
+/// The signature of the body in the group by the key of this number, which has signed less.
+fn signature(alloc: Global, group: &Group, number: u16, body: &Body) -> Result<Vec<u8>, Fail> {
+    let kinds = Kinds {
+        ots: OtsKind::W8,
+        tree: TreeKind::H5,
+        bottom: None,
+    };
+    let mut key = make_key(alloc, kinds, &world_secret(&group.tag, number))?;
+    if key.index_count() <= 5 {
+        return Err("no index".into());
+    }
+    key.skip_to(5);
+    key.prepare(alloc)?;
+    let mut signature = vec![in alloc; 0; key.signature_length()]?;
+    key.sign_next(signed_bytes(group, body).as_slice(), &mut signature);
+    Ok(signature)
+}
+
+/// A datagram with the body that the schedule never signed, by the key of this number, as digits.
+fn forged(alloc: Global, number: u16, body: Body) -> Result<String, Fail> {
     let group = Group {
         tag: [0; 16],
         t: 1,
@@ -94,33 +138,36 @@ fn forged_note(alloc: Global) -> Result<String, Fail> {
         period: 1,
         misses: 2,
     };
-    let body = Body::Note(NoteBody {
-        member: MemberId::new(1),
-        epoch: Epoch::new(9),
-        mask: Mask(7),
-    });
-    let secret = world_secret(&group.tag, 1);
-    let (tree, mut leaves) = make_key(alloc, OtsKind::W8, TreeKind::H5, &secret)?.split();
-    leaves.skip_to(5);
-    let mut signature = vec![in alloc; 0; tree.public().signature_length()]?;
-    let Some(leaf) = leaves.take() else {
-        return Err("no leaf".into());
-    };
-    tree.sign(leaf, signed_bytes(&group, &body).as_slice(), &mut signature);
     let forged = Record {
         body,
-        signature: Bytes::from_vec(signature),
+        signature: Bytes::from_vec(signature(alloc, &group, number, &body)?),
     };
     let mut bytes = [0x46, 0x46, 1, 4, 0, 2, 0, 1].to_vec(alloc)?;
     write_record(&forged, &mut bytes)?;
     Ok(hex::encode(alloc, bytes.as_slice())?)
 }
 
+/// The body that the schedule never signed ends the run with this line.
+fn is_named(
+    rt: &impl Abort,
+    alloc: Global,
+    number: u16,
+    body: Body,
+    line: &str,
+) -> Result<(), Fail> {
+    let digits = forged(alloc, number, body)?;
+    let rest = format!(in alloc; "raw 1 {digits}\nend\n")?;
+    replays(rt, alloc, rest.as_str(), line, 4)
+}
+
+/// A note of a node, and a certificate of the longest key by the authority.
 #[test]
 fn a_forged_record_ends_the_run(rt: HostRuntime) -> Result<(), Fail> {
-    let digits = forged_note(rt.alloc())?;
-    let rest = format!(in rt.alloc(); "raw 1 {digits}\nend\n")?;
-    replays(&rt, rt.alloc(), rest.as_str(), "forged 8 1 note 1 9 7\n", 4)
+    is_named(&rt, rt.alloc(), 1, note(), "forged 8 1 note 1 9 7\n")?;
+    let line =
+        "forged 8 authority cert 3 65535 000000020000000500000003a1a1a1a1a1a1a1a1a1a1a1a1a1a1a1a1\
+        b2b2b2b2b2b2b2b2b2b2b2b2b2b2b2b2b2b2b2b2b2b2b2b2b2b2b2b2b2b2b2b2\n";
+    is_named(&rt, rt.alloc(), 65_535, certificate(), line)
 }
 
 /// A forged record ends a run over these.
@@ -131,7 +178,7 @@ fn replay_forged(
     link: &mut MemoryLink,
     clock: &mut MemoryClock,
 ) -> Result<(), Fail> {
-    let digits = forged_note(alloc)?;
+    let digits = forged(alloc, 1, note())?;
     let text = format!(in alloc; "{WORLD}raw 1 {digits}\nend\n")?;
     let got = run_on(alloc, &["replay"], text.as_str(), 4_000, disk, link, clock)?;
     assert_eq!(rt; got.number, 4);

@@ -10,6 +10,7 @@ use lms_ots::OtsKind;
 use lms_tree::TreeKind;
 use ports::{MemoryDisk, MemorySource};
 use secrets::{make_key, store_tag};
+use sign_keys::Kinds;
 use std::alloc::Global;
 use std::process::Abort;
 use std::test::Fail;
@@ -36,7 +37,12 @@ fn roster(alloc: Global, count: u16) -> Result<MemorySource, Fail>
 
 /// The tag of the authority's store.
 fn tag(alloc: Global) -> Result<[u8; 32], Fail> {
-    let key = make_key(alloc, OtsKind::W2, TreeKind::H5, &[0x5a; 32])?.public();
+    let kinds = Kinds {
+        ots: OtsKind::W2,
+        tree: TreeKind::H5,
+        bottom: None,
+    };
+    let key = make_key(alloc, kinds, &[0x5a; 32])?;
     let group = Group {
         tag: [0; 16],
         t: 1,

@@ -8,7 +8,7 @@ use std::alloc::Global;
 use std::test::Fail;
 
 /// The text of each kind of event, but for faults.
-const EVENTS: [&str; 23] = [
+const EVENTS: [&str; 25] = [
     "at 0 entered 0",
     "at 10 expired 3 1023 18446744073709551615 255",
     "at 3 removed 2",
@@ -20,6 +20,8 @@ const EVENTS: [&str; 23] = [
     "at 0 took accuse 2 1 1 0 : accepted",
     "at 4 took cert 7 20007 0000000500000004101112131415161718191a1b1c1d1e1fe0e1e2e3e4e5e6e7e8e9eaebecedeeeff0f1f2f3f4f5f6f7f8f9fafbfcfdfeff : accepted",
     "at 18446744073709551615 took cert 1023 65535 0000000500000004101112131415161718191a1b1c1d1e1fe0e1e2e3e4e5e6e7e8e9eaebecedeeeff0f1f2f3f4f5f6f7f8f9fafbfcfdfeff : refused other-certificate 65535 0000000500000004101112131415161718191a1b1c1d1e1fe0e1e2e3e4e5e6e7e8e9eaebecedeeeff0f1f2f3f4f5f6f7f8f9fafbfcfdfeff",
+    "at 0 spent 0 cert 1023 65535 000000020000000500000004101112131415161718191a1b1c1d1e1fe0e1e2e3e4e5e6e7e8e9eaebecedeeeff0f1f2f3f4f5f6f7f8f9fafbfcfdfeff",
+    "at 4 took cert 7 20007 000000020000000500000004101112131415161718191a1b1c1d1e1fe0e1e2e3e4e5e6e7e8e9eaebecedeeeff0f1f2f3f4f5f6f7f8f9fafbfcfdfeff : refused other-certificate 20008 0000000500000004101112131415161718191a1b1c1d1e1fe0e1e2e3e4e5e6e7e8e9eaebecedeeeff0f1f2f3f4f5f6f7f8f9fafbfcfdfeff",
     "at 7 bad-form 18446744073709551615",
     "at 7 ping 2 0",
     "at 7 pong 2 18446744073709551615 counted",
@@ -35,7 +37,7 @@ const EVENTS: [&str; 23] = [
 ];
 
 /// The text of each kind of fault.
-const FAULTS: [&str; 18] = [
+const FAULTS: [&str; 19] = [
     "already-member",
     "unknown-member",
     "bad-mask",
@@ -45,6 +47,7 @@ const FAULTS: [&str; 18] = [
     "bad-signature",
     "own-ahead 5 7 9 3",
     "other-certificate 20002 0000000500000004101112131415161718191a1b1c1d1e1fe0e1e2e3e4e5e6e7e8e9eaebecedeeeff0f1f2f3f4f5f6f7f8f9fafbfcfdfeff",
+    "other-certificate 20002 000000020000000500000004101112131415161718191a1b1c1d1e1fe0e1e2e3e4e5e6e7e8e9eaebecedeeeff0f1f2f3f4f5f6f7f8f9fafbfcfdfeff",
     "self-accusation",
     "bad-ring",
     "no-note",
@@ -71,7 +74,7 @@ const CUT: [&str; 10] = [
 ];
 
 /// Texts in which a word fails, and where it begins.
-const FAILING: [(&str, usize); 37] = [
+const FAILING: [(&str, usize); 41] = [
     ("at@ 5 stopped", 0),
     ("@1 at 5 stopped at", 0),
     ("at 05 stopped", 3),
@@ -111,6 +114,23 @@ const FAILING: [(&str, usize); 37] = [
     ),
     (
         "at 5 spent 1 cert 1 1 0000000800000004101112131415161718191a1b1c1d1e1fe0e1e2e3e4e5e6e7e8e9eaebecedeeeff0f1f2f3f4f5f6f7f8f9fafbfcfdfeff",
+        22,
+    ),
+    // no two levels, W2, a key of two levels cut to 112 digits, and one of one level with 120
+    (
+        "at 5 spent 1 cert 1 1 000000010000000500000004101112131415161718191a1b1c1d1e1fe0e1e2e3e4e5e6e7e8e9eaebecedeeeff0f1f2f3f4f5f6f7f8f9fafbfcfdfeff",
+        22,
+    ),
+    (
+        "at 5 spent 1 cert 1 1 000000020000000500000002101112131415161718191a1b1c1d1e1fe0e1e2e3e4e5e6e7e8e9eaebecedeeeff0f1f2f3f4f5f6f7f8f9fafbfcfdfeff",
+        22,
+    ),
+    (
+        "at 5 spent 1 cert 1 1 000000020000000500000004101112131415161718191a1b1c1d1e1fe0e1e2e3e4e5e6e7e8e9eaebecedeeeff0f1f2f3f4f5f6f7f8f9fafb",
+        22,
+    ),
+    (
+        "at 5 spent 1 cert 1 1 0000000500000004101112131415161718191a1b1c1d1e1fe0e1e2e3e4e5e6e7e8e9eaebecedeeeff0f1f2f3f4f5f6f7f8f9fafbfcfdfeff00000002",
         22,
     ),
     ("at 5 took note 1 1 7 accepted", 21),

@@ -31,6 +31,8 @@ mod roster_lines;
 #[cfg(test)]
 mod soaks;
 #[cfg(test)]
+mod two_levels;
+#[cfg(test)]
 mod verify_lines;
 #[cfg(test)]
 mod verifying;

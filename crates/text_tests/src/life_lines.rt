@@ -1,4 +1,4 @@
-use ff_ids::{AccBody, Epoch, Fault, Mask, MemberId, NoteBody, RingNo};
+use ff_ids::{AccBody, Epoch, Fault, KeyBytes, Mask, MemberId, NoteBody, RingNo};
 use life_events::{Event, Verdict, What, write_event, write_members, write_verdict};
 use std::test::Fail;
 
@@ -74,7 +74,15 @@ fn writes_each_fault(rt: HostRuntime) -> Result<(), Fail> {
         },
         Fault::OtherCertificate {
             port: 20002,
-            key: *b"\x00\x00\x00\x05\x00\x00\x00\x04identifier of 16root of thirty-two bytes, or 32\xff",
+            key: KeyBytes::Lms(
+                *b"\x00\x00\x00\x05\x00\x00\x00\x04identifier of 16root of thirty-two bytes, or 32\xff",
+            ),
+        },
+        Fault::OtherCertificate {
+            port: 20002,
+            key: KeyBytes::Hss(
+                *b"\x00\x00\x00\x02\x00\x00\x00\x05\x00\x00\x00\x04identifier of 16root of thirty-two bytes, or 32\xff",
+            ),
         },
     ];
     let mut out = Vec::new(rt.alloc());
@@ -87,6 +95,8 @@ refused older 5 31,refused self-accusation,refused bad-ring,refused no-note,refu
 refused not-in-view,refused ring-disabled,refused not-monitor 20,refused not-monitor none,\
 refused standing,refused bad-signature,refused own-ahead 5 7 9 3,\
 refused other-certificate 20002 0000000500000004\
+6964656e746966696572206f66203136726f6f74206f66207468697274792d74776f2062797465732c206f72203332ff,\
+refused other-certificate 20002 000000020000000500000004\
 6964656e746966696572206f66203136726f6f74206f66207468697274792d74776f2062797465732c206f72203332ff,";
     assert_eq!(rt; out.as_slice(), texts.as_bytes());
     Ok(())

@@ -1,6 +1,7 @@
 //! Texts that are read line by line.
 
 use ff_ids::{Group, MemberId};
+use hss::HssKey;
 use line_text::{BadWord, LineFault, Reader};
 use lms_ots::OtsKind;
 use lms_tree::{PublicKey, TreeKind};
@@ -39,6 +40,7 @@ fn a_secret_is_read(rt: HostRuntime) -> Result<(), Fail> {
     let kinds = Kinds {
         ots: OtsKind::W8,
         tree: TreeKind::H15,
+        bottom: None,
     };
     assert_eq!(rt;
         lines.line(alloc, b"kinds 8 15\n")?,
@@ -54,13 +56,21 @@ fn a_secret_is_read(rt: HostRuntime) -> Result<(), Fail> {
     Ok(())
 }
 
+/// The line is taken.
+fn take(alloc: Global, lines: &mut Reader<RosterText>, bytes: &[u8]) -> Result<(), LineFault> {
+    match lines.line(alloc, bytes) {
+        Ok(_) => Ok(()),
+        Err(fault) => Err(fault),
+    }
+}
+
 /// A reader of a roster that has read all that stands before its certificates.
 fn asked(alloc: Global) -> Result<Reader<RosterText>, LineFault> {
     let mut lines = Reader::open(RosterText::Start);
-    lines.line(alloc, b"fireflies 1 roster\n")?;
-    lines.line(alloc, GROUP.as_bytes())?;
-    lines.line(alloc, b"kinds 8 5\n")?;
-    lines.line(alloc, SECRET.as_bytes())?;
+    take(alloc, &mut lines, b"fireflies 1 roster\n")?;
+    take(alloc, &mut lines, GROUP.as_bytes())?;
+    take(alloc, &mut lines, b"kinds 8 5\n")?;
+    take(alloc, &mut lines, SECRET.as_bytes())?;
     Ok(lines)
 }
 
@@ -88,7 +98,25 @@ fn certificates_are_asked_for(rt: HostRuntime) -> Result<(), Fail> {
         lines.line(alloc, line.as_bytes()).err(),
         bad(BadWord::Limit)
     );
-    assert_eq!(rt; lines.number(), 6);
+    let line =
+        "cert 7 20007 000000020000000700000003A1a1A1a1a1a1a1a1a1a1a1a1a1a1a1a1b2b2b2b2b2b2b2b2b2b2b2b2b2b2b2b2b2b2b2b2b2b2b2b2b2b2b2b2b2b2b2b2\n";
+    let wanted = CertBody {
+        member: MemberId::new(7),
+        port: 20_007,
+        key: Key::Hss(HssKey {
+            top: PublicKey {
+                tree: TreeKind::H15,
+                ots: OtsKind::W4,
+                id: [0xa1; 16],
+                root: [0xb2; 32],
+            },
+        }),
+    };
+    assert_eq!(rt;
+        lines.line(alloc, line.as_bytes())?,
+        RosterLine::Cert(wanted)
+    );
+    assert_eq!(rt; lines.number(), 7);
     assert_eq!(rt; lines.line(alloc, b"end\n")?, RosterLine::End);
     assert_eq!(rt; lines.end().err(), None);
     Ok(())

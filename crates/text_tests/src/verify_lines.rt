@@ -1,6 +1,7 @@
 //! A text with bytes, read line by line.
 
 use line_text::{BadWord, LineFault, Reader};
+use records::Key;
 use std::test::Fail;
 use verify_text::{Asked, Verify};
 
@@ -25,7 +26,10 @@ fn asks_a_question(rt: HostRuntime) -> Result<(), Fail> {
     };
     assert_eq!(rt; question.message.as_slice(), b"\x00\xff".as_slice());
     assert_eq!(rt; question.signature.as_slice(), b"\x0a\x0b\x0c".as_slice());
-    assert_eq!(rt; question.key.id, [0xa1; 16]);
+    let Key::Lms(key) = question.key else {
+        panic!(rt; "a key of one level");
+    };
+    assert_eq!(rt; key.id, [0xa1; 16]);
     Ok(())
 }
 

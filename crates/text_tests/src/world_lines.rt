@@ -18,7 +18,8 @@ fn below_kinds(alloc: Global) -> Result<Reader<WorldText>, Fail> {
         line,
         WorldLine::Kinds {
             ots: OtsKind::W8,
-            tree: TreeKind::H5
+            tree: TreeKind::H5,
+            bottom: None
         }
     ) {
         return Err(Fail::from("other kinds"));

@@ -13,6 +13,7 @@ use lms_ots::OtsKind;
 use lms_tree::{SecretKey, TreeKind};
 use ports::MemoryDisk;
 use secrets::store_tag;
+use sign_keys::SignKey;
 use std::alloc::Global;
 use std::process::Abort;
 use std::test::Fail;
@@ -134,7 +135,8 @@ fn group(t: u8) -> Group {
 /// The mark of the one key's store in a group of this tolerance.
 fn tag_in(alloc: Global, t: u8) -> Result<[u8; 32], Fail> {
     let key = SecretKey::make(alloc, TreeKind::H5, OtsKind::W4, [1; 16], [2; 32]).or(Err("key"))?;
-    Ok(store_tag(&group(t), &key.public()))
+    let (tree, leaves) = key.split();
+    Ok(store_tag(&group(t), &SignKey::Lms(tree, leaves)))
 }
 
 /// The place and the byte at which the store in the disk's file is found to be another key's than of this tag.

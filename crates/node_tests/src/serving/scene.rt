@@ -28,8 +28,9 @@ const GROUP: Group = Group {
 };
 
 const KINDS: Kinds = Kinds {
-    tree: TreeKind::H5,
     ots: OtsKind::W1,
+    tree: TreeKind::H5,
+    bottom: None,
 };
 
 /// The member's key, with all its leaves.

@@ -6,10 +6,11 @@ use ff_ids::{Epoch, Group, Mask, MemberId, NoteBody};
 use lms_ots::OtsKind;
 use lms_tree::TreeKind;
 use records::Body;
+use sign_keys::Kinds;
 use std::alloc::Global;
 use std::process::Abort;
 use std::test::Fail;
-use world_host::{Kinds, SigningKey, key_of};
+use world_host::{SigningKey, key_of};
 
 const GROUP: Group = Group {
     tag: [0; 16],
@@ -22,6 +23,7 @@ const GROUP: Group = Group {
 const KINDS: Kinds = Kinds {
     ots: OtsKind::W2,
     tree: TreeKind::H5,
+    bottom: None,
 };
 
 /// A datagram from member 2 with one record, up to its signature: the note of member 1 with epoch 9 and mask 7.

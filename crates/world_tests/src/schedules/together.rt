@@ -23,6 +23,7 @@ const GROUP: Group = Group {
 const KINDS: Kinds = Kinds {
     tree: TreeKind::H5,
     ots: OtsKind::W2,
+    bottom: None,
 };
 
 /// A node and two liars.
