@@ -7,11 +7,16 @@ import re
 from dataclasses import dataclass, field
 from typing import Dict, Optional
 
-from lines import LineError, lines_of, of_words
+from lines import LineError, kinds_of_key, lines_of, of_words
+from lms import types_in
 
 HEIGHTS = {"5": 5, "10": 6, "15": 7}
 WIDTHS = {"1": 1, "2": 2, "4": 3, "8": 4}
-MOST_SIGNATURE = 9004
+# How many bytes a public key has: of one level, and of two.
+ONE_LEVEL, TWO_LEVELS = 56, 60
+# How a key of so many bytes begins, and the types of its trees and of its one-time signatures.
+KEYS = {ONE_LEVEL: (b"", (5, 6, 7), (1, 2, 3, 4)), TWO_LEVELS: (b"\0\0\0\2", (5, 6, 7), (3, 4))}
+SIGNATURES = range(1, 9005)
 
 
 @dataclass(frozen=True)
@@ -31,14 +36,23 @@ class Group:
 
 @dataclass(frozen=True)
 class Kinds:
-    """`kinds W H`"""
+    """`kinds W H`; of keys of two levels `kinds W H H1`."""
 
     width: int
     height: int
+    bottom: Optional[int] = None
+
+    def __str__(self):
+        return f"{self.width} {self.height}{'' if self.bottom is None else f' {self.bottom}'}"
 
     @property
     def leaves(self):
-        return 2**self.height
+        return 2 ** (self.height + (self.bottom or 0))
+
+    @property
+    def shown(self):
+        """What a public key shows of these: of H1 only that there is one."""
+        return f"{self.width} {self.height}{'' if self.bottom is None else ' H1'}"
 
 
 @dataclass(frozen=True)
@@ -50,6 +64,14 @@ class Certified:
     key: bytes
     signature: Optional[bytes]
     line: int
+
+    @property
+    def shown(self):
+        """What the key shows of its kinds, as of `Kinds`."""
+        tree, ots = types_in(self.key[-ONE_LEVEL:])
+        width = next(width for width, number in WIDTHS.items() if number == ots)
+        height = next(height for height, number in HEIGHTS.items() if number == tree)
+        return f"{width} {height}{' H1' if len(self.key) == TWO_LEVELS else ''}"
 
 
 @dataclass
@@ -72,22 +94,25 @@ class Text:
 # ---- words
 
 
-def hexadecimal(words, least, most, what):
-    wanted = f"{what}, {least} bytes" if least == most else f"{what}, {least} to {most} bytes"
-    found = words.matching(re.compile(r"(?:[0-9a-fA-F]{2})+\Z"), f"{wanted} in hexadecimal digits,")
-    if not least <= len(found) // 2 <= most:
+def hexadecimal(words, sizes, what):
+    """So many bytes, of which `sizes` has the number."""
+    told = " or ".join(map(str, sizes)) if len(sizes) <= 2 else f"{sizes[0]} to {sizes[-1]}"
+    wanted = f"{what}, {told} bytes in hexadecimal digits,"
+    found = words.matching(re.compile(r"(?:[0-9a-fA-F]{2})+\Z"), wanted)
+    if len(found) // 2 not in sizes:
         words.at -= 1
-        words.fail(f"{wanted} in hexadecimal digits,")
+        words.fail(wanted)
     return bytes.fromhex(found)
 
 
-def key_of(words):
-    """A public key: its types are those of a tree and of a one-time signature that are known."""
-    found = hexadecimal(words, 56, 56, "a key")
-    tree, ots = int.from_bytes(found[:4], "big"), int.from_bytes(found[4:8], "big")
-    if tree not in HEIGHTS.values() or ots not in WIDTHS.values():
+def key_of(words, *sizes):
+    """A public key of one of these sizes."""
+    found = hexadecimal(words, sizes, "a key")
+    front, trees, otses = KEYS[len(found)]
+    tree, ots = types_in(found[-ONE_LEVEL:])
+    if found[:-ONE_LEVEL] != front or tree not in trees or ots not in otses:
         words.at -= 1
-        words.fail("a key of the types 5 to 7 and 1 to 4")
+        words.fail(f"a key {f'behind {front.hex()} ' if front else ''}of the types 5 to 7 and {otses[0]} to {otses[-1]}")
     return found
 
 
@@ -95,19 +120,28 @@ def group_of(words):
     words.one_of("group")
     t = words.number_in(1, 31, "T")
     timeout, period = words.number_in(1, 10000, "TIMEOUT"), words.number_in(1, 1000, "PERIOD")
-    return Group(t, timeout, period, words.number_in(1, 16, "MISSES"), hexadecimal(words, 16, 16, "TAG"))
+    return Group(t, timeout, period, words.number_in(1, 16, "MISSES"), hexadecimal(words, (16,), "TAG"))
 
 
 def kinds_of(words):
     words.one_of("kinds")
-    return Kinds(int(words.one_of(*WIDTHS)), int(words.one_of(*HEIGHTS)))
+    return Kinds(*kinds_of_key(words, HEIGHTS))
+
+
+def one_level_kinds_of(words):
+    """Those of an authority's key, which has one level."""
+    found = kinds_of(words)
+    if found.bottom is not None:
+        words.at -= 1
+        words.end()
+    return found
 
 
 def certified(words, is_signed):
     words.one_of("cert")
     member, port = words.member(), words.number_in(1, 65535, "PORT")
-    key = key_of(words)
-    signature = hexadecimal(words, 1, MOST_SIGNATURE, "SIGNATURE") if is_signed else None
+    key = key_of(words, ONE_LEVEL, TWO_LEVELS)
+    signature = hexadecimal(words, SIGNATURES, "SIGNATURE") if is_signed else None
     words.end()
     return Certified(member, port, key, signature, words.number)
 
@@ -115,20 +149,20 @@ def certified(words, is_signed):
 def secret(words):
     """A secret, which is read and dropped."""
     words.one_of("secret")
-    hexadecimal(words, 32, 32, "a secret")
+    hexadecimal(words, (32,), "a secret")
 
 
 def own_member(words):
     """The member of `self M SECRET`. The secret is read and dropped."""
     words.one_of("self")
     member = words.member()
-    hexadecimal(words, 32, 32, "SECRET")
+    hexadecimal(words, (32,), "SECRET")
     return member
 
 
 def authority_of(words):
     words.one_of("authority")
-    return key_of(words)
+    return key_of(words, ONE_LEVEL)
 
 
 def tick_of(words):
@@ -144,7 +178,7 @@ HEADS = {
         ("authority", authority_of),
         ("tick", tick_of),
     ),
-    "roster": (("group", group_of), ("kinds", kinds_of), (None, secret)),
+    "roster": (("group", group_of), ("kinds", one_level_kinds_of), (None, secret)),
 }
 
 

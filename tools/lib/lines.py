@@ -148,6 +148,8 @@ Line = Union[Header, Event, Turn, Step, Ending]
 # ---- words
 
 NUMBER = re.compile(r"(?:0|[1-9][0-9]{0,19})\Z")
+# Of one level, or of two behind the number of levels.
+KEY = re.compile(r"(?:00000002)?[0-9a-f]{112}\Z")
 DIGITS = re.compile(r"(?:[0-9a-f]{2})+\Z")
 NAME = re.compile(r"[a-z0-9-]{1,32}\Z")
 WORDS = re.compile(r"[!-~]+(?: [!-~]+)*\Z")
@@ -215,6 +217,9 @@ class Words:
             return ""
         return self.matching(DIGITS, "bytes in lower case digits")
 
+    def key(self):
+        return self.matching(KEY, "a key of 112 digits, or one of 120 that begin with 00000002,")
+
     def rest(self):
         rest = tuple(self.words[self.at :])
         self.at = len(self.words)
@@ -228,6 +233,28 @@ class Words:
             self.fail("the end of the line")
 
 
+# ---- kinds of keys
+
+WIDTHS = ("1", "2", "4", "8")
+HEIGHTS = ("5", "10")
+
+
+def kinds_of_key(words, heights=HEIGHTS):
+    """W and H, and where a third word stands H1."""
+    width, height = int(words.one_of(*WIDTHS)), int(words.one_of(*heights))
+    return [width, height] if words.is_over() else [width, height, bottom_height(words, width, height)]
+
+
+def bottom_height(words, width, height):
+    """H1, the height of the bottom trees of a key of two levels: it has W4 or W8, and 15 levels at most in all."""
+    wanted = "H1, 5 or 10, with W 4 or 8 and H + H1 at most 15,"
+    found = words.word(wanted)
+    if found not in HEIGHTS or width not in (4, 8) or height + int(found) > 15:
+        words.at -= 1
+        words.fail(wanted)
+    return int(found)
+
+
 # ---- records and faults
 
 
@@ -238,8 +265,7 @@ def accusation(words):
 def body(words):
     word = words.one_of("cert", "note", "accuse")
     if word == "cert":
-        port = words.member(), words.number_in(1, 65535, "a port")
-        return Certificate(*port, words.matching(re.compile(r"[0-9a-f]{112}\Z"), "a key of 112 digits"))
+        return Certificate(words.member(), words.number_in(1, 65535, "a port"), words.key())
     if word == "note":
         return Note(words.member(), words.epoch(), words.mask())
     return accusation(words)
@@ -260,7 +286,7 @@ def fault(words):
     elif word == "own-ahead":
         words.epoch(), words.mask(), words.epoch(), words.mask()
     elif word == "other-certificate":
-        words.number_in(1, 65535, "a port"), words.matching(DIGITS, "a key")
+        words.number_in(1, 65535, "a port"), words.key()
     elif word == "other-epoch":
         words.epoch()
     elif word == "not-monitor" and not (not words.is_over() and words.words[words.at] == "none"):
@@ -456,7 +482,7 @@ WORLD_STEPS = {
         (ranged(1, 31, "t"), ranged(1, 10000, "a timeout"), ranged(1, 1000, "a period"), ranged(1, 16, "misses"), tag),
         None,
     ),
-    "kinds": ((ranged(1, 8, "a kind"), ranged(5, 10, "a height")), None),
+    "kinds": ((kinds_of_key,), None),
     "node": ((MEMBER,), None),
     "liar": ((MEMBER,), None),
     "begin": ((), None),

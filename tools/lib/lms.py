@@ -38,12 +38,22 @@ def candidate(ots, identity, index, message, signature):
     return sha(head, u16(0x8080), *ends)
 
 
+def types_in(key):
+    """The types of the tree and of the one-time signatures of a key of 56 bytes."""
+    return int.from_bytes(key[:4], "big"), int.from_bytes(key[4:8], "big")
+
+
+def signature_length(key):
+    tree, ots = types_in(key)
+    return 44 + 32 * OTS[ots][1] + 32 * TREE[tree]
+
+
 def verifies(key, message, signature):
     """Whether this is a signature of the message under the key of 56 bytes."""
-    tree, ots = int.from_bytes(key[:4], "big"), int.from_bytes(key[4:8], "big")
+    tree, ots = types_in(key)
     identity, root = key[8:24], key[24:]
     height, ots_length = TREE[tree], 36 + 32 * OTS[ots][1]
-    if len(signature) != 8 + ots_length + 32 * height:
+    if len(signature) != signature_length(key):
         return False
     index = int.from_bytes(signature[:4], "big")
     one_time, kind, path = signature[4 : 4 + ots_length], signature[4 + ots_length :][:4], signature[8 + ots_length :]
@@ -60,11 +70,12 @@ def verifies(key, message, signature):
 
 
 def certificate_body(one):
-    """The bytes of a certificate in a record."""
-    return b"\x01" + u16(one.member) + u16(one.port) + one.key
+    """The bytes of a certificate in a record: its kind tells whether the key has one level or two."""
+    kind = b"\x01" if len(one.key) == 56 else b"\x05"
+    return kind + u16(one.member) + u16(one.port) + one.key
 
 
 def is_certified(group, authority, one):
-    """Whether the certificate is one of the authority's in this group."""
+    """Whether the certificate is one of the authority's, whose key has one level, in this group."""
     signed = b"FFSIGN" + group.tag + bytes([group.t]) + certificate_body(one)
     return verifies(authority, signed, one.signature)

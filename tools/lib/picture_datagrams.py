@@ -2,8 +2,9 @@
 
 KINDS = {"01": "ping", "02": "pong", "03": "summary", "04": "records", "05": "summary"}
 
-# How many bytes the mask of a note has, by the kind of its body.
-MASK_SIZES = {2: 4, 4: 8}
+# How many bytes a body has, by its kind: a certificate with a key of one level and of two, a note with a mask of four bytes
+# and of eight, and an accusation.
+SIZES = {1: 61, 5: 65, 2: 15, 4: 19, 3: 14}
 
 
 def datagram_kind(digits):
@@ -13,24 +14,22 @@ def datagram_kind(digits):
     return KINDS.get(digits[6:8], "other")
 
 
-def records_of(data):
-    """The texts of the bodies of a records datagram, as far as they can be read."""
-    found, place = [], 8
-    while place < len(data):
-        kind = data[place]
-        if kind == 1 and place + 61 <= len(data):
-            text, size = f"cert {word(data, place + 1, 2)} {word(data, place + 3, 2)}", 61
-        elif kind in MASK_SIZES and place + 11 + MASK_SIZES[kind] <= len(data):
-            size = 11 + MASK_SIZES[kind]
-            text = f"note {word(data, place + 1, 2)} {word(data, place + 3, 8)} {word(data, place + 11, MASK_SIZES[kind])}"
-        elif kind == 3 and place + 14 <= len(data):
-            numbers = word(data, place + 1, 2), word(data, place + 3, 2), word(data, place + 5, 8), data[place + 13]
-            text, size = "accuse {} {} {} {}".format(*numbers), 14
-        else:
-            break
-        found.append(text)
-        place += size + 2 + word(data, place + size, 2)
-    return found
+def records_in(data):
+    """The bodies of a records datagram, each with its signature, as far as they can be read."""
+    place = 8
+    while place < len(data) and place + SIZES.get(data[place], len(data)) <= len(data):
+        signature = place + SIZES[data[place]] + 2
+        end = signature + word(data, signature - 2, 2)
+        yield data[place : signature - 2], data[signature:end]
+        place = end
+
+
+def text_of(body):
+    if body[0] in (1, 5):
+        return f"cert {word(body, 1, 2)} {word(body, 3, 2)}"
+    if body[0] == 3:
+        return f"accuse {word(body, 1, 2)} {word(body, 3, 2)} {word(body, 5, 8)} {body[13]}"
+    return f"note {word(body, 1, 2)} {word(body, 3, 8)} {word(body, 11, len(body) - 11)}"
 
 
 def word(data, place, size):
@@ -42,5 +41,5 @@ def describe_datagram(digits):
     kind = datagram_kind(digits)
     if kind != "records":
         return kind
-    found = records_of(bytes.fromhex(digits))
+    found = [text_of(body) for body, _ in records_in(bytes.fromhex(digits))]
     return "records: " + ", ".join(found[:8]) + (", .." if len(found) > 8 else "")

@@ -1,6 +1,6 @@
-//! Floor: checks. All benches, of which the words pick one: `lms`, `records`, `signer` and `node` print times; `read`
-//! reads a datagram's worth of records and prints how many it could; `hold` keeps a node among 1,000 members until a
-//! line comes; `receive PORT TURNS FROM` is the plain side of the times of a node that is served, and `hash COUNT` prints
+//! Floor: checks. All benches, of which the words pick one: `lms`, `pairs`, `records`, `signer` and `node` print times;
+//! `read` reads a datagram's worth of records and prints how many it could; `hold` keeps a node among 1,000 members until
+//! a line comes; `receive PORT TURNS FROM` is the plain side of the times of a node that is served, and `hash COUNT` prints
 //! the time of so many plain calls of SHA-256; `call WORD` makes one call of a node. With other words it says so, and
 //! exits with 2. The scripts in `bench/` run it.
 #![tactic(auto)]
@@ -9,6 +9,7 @@ mod call;
 mod checking;
 mod lms;
 mod node;
+mod pairs;
 mod reading;
 mod receiving;
 mod signing;
@@ -23,6 +24,7 @@ use timing::plain_calls;
 /// Which bench is run.
 enum Bench {
     Lms,
+    Pairs,
     Records,
     Read,
     Signer,
@@ -54,6 +56,7 @@ impl Bench {
     fn of_word(word: &str) -> Option<Bench> {
         match word {
             "lms" => Some(Bench::Lms),
+            "pairs" => Some(Bench::Pairs),
             "records" => Some(Bench::Records),
             "read" => Some(Bench::Read),
             "signer" => Some(Bench::Signer),
@@ -75,6 +78,7 @@ impl Bench {
     fn run(self, rt: &HostRuntime) -> io::Result<()> {
         match self {
             Bench::Lms => lms::print(rt),
+            Bench::Pairs => pairs::print(rt),
             Bench::Records => checking::print(rt),
             Bench::Read => println!(rt; "{} records", reading::count(rt.alloc())?),
             Bench::Signer => signing::print(rt),
@@ -100,7 +104,7 @@ fn main(rt: HostRuntime) -> io::Result<ExitCode> {
     let words = words_of(&rt)?;
     let Some(bench) = Bench::of(&words) else {
         println!(rt;
-            "words: lms, records, read, signer, node, hold, receive PORT TURNS FROM, hash COUNT, call records|summary|tick"
+            "words: lms, pairs, records, read, signer, node, hold, receive PORT TURNS FROM, hash COUNT, call records|summary|tick"
         )?;
         return Ok(ExitCode::from(2));
     };

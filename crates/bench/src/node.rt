@@ -49,7 +49,9 @@ fn compressions_of(scene: &Scene, note: NoteBody, bytes: &[u8]) -> u64 {
     let body = Body::Note(note);
     let message = signed_bytes(&GROUP, &body);
     let signature = bytes.get(25..).unwrap_or(&[]);
-    let key = scene.key.public();
+    let Some(key) = scene.key.one_level() else {
+        return 0;
+    };
     signing_and_verifying(key.tree, key.ots, &key.id, message.as_slice(), signature).1
 }
 

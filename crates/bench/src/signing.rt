@@ -10,6 +10,7 @@ use lms_ots::OtsKind;
 use lms_tree::{Leaves, SecretKey, Tree, TreeKind};
 use ports::MemoryDisk;
 use records::{Body, signed_bytes};
+use sign_keys::SignKey;
 use signer::Signer;
 use std::alloc::Global;
 use std::io;
@@ -112,7 +113,7 @@ fn open_signer(alloc: Global, disk: &mut MemoryDisk) -> io::Result<Signer> {
     if store.state().next > 0 {
         return Err(failed());
     }
-    Ok(Signer::open(group(), tree, leaves, store))
+    Ok(Signer::open(group(), SignKey::Lms(tree, leaves), store))
 }
 
 /// The time of signing with each leaf through a signer.

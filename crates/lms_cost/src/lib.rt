@@ -1,5 +1,5 @@
-//! Floor: checks. How many compressions of SHA-256 the definition of LMS has (RFC 8554, sections 4 and 5, and appendix
-//! A). `bench` compares times with it, and `key_tests` checks it.
+//! Floor: checks. How many compressions of SHA-256 the definitions of LMS and of HSS with two levels have (RFC 8554,
+//! sections 4 to 6, and appendix A). `bench` compares times with it, and `key_tests` checks it.
 #![tactic(auto)]
 
 use lms_ots::OtsKind;
@@ -79,7 +79,7 @@ fn signed_steps(kind: OtsKind, hash: &[u8; 32]) -> u64 {
 }
 
 /// The hash of the message that the chains of this signature spell.
-fn message_hash(id: &[u8; 16], message: &[u8], signature: &[u8]) -> [u8; 32] {
+fn message_hash(id: &[u8], message: &[u8], signature: &[u8]) -> [u8; 32] {
     let mut hasher = Sha256::new();
     hasher.update(id);
     hasher.update(signature.get(..4).unwrap_or(&[]));
@@ -94,6 +94,17 @@ pub fn signing_and_verifying(
     tree: TreeKind,
     kind: OtsKind,
     id: &[u8; 16],
+    message: &[u8],
+    signature: &[u8],
+) -> (u64, u64) {
+    by_identifier(tree, kind, id, message, signature)
+}
+
+/// The same, with an identifier that stands among other bytes.
+fn by_identifier(
+    tree: TreeKind,
+    kind: OtsKind,
+    id: &[u8],
     message: &[u8],
     signature: &[u8],
 ) -> (u64, u64) {
@@ -112,4 +123,40 @@ pub fn signing_and_verifying(
         .saturating_add(leaf(kind))
         .saturating_add(path);
     (signing, verifying)
+}
+
+/// What a signature of two levels costs, by what it is for.
+#[derive(Debug, Clone, Copy, PartialEq, Eq)]
+pub struct PairCost {
+    /// The bottom tree, whose identifier and seed are a hash each, and the top key's signature of its key.
+    pub bottom: u64,
+    /// The bottom key's signature of the message.
+    pub signing: u64,
+    /// Verifying both.
+    pub verifying: u64,
+}
+
+/// The cost of this signature of the message, under a top key with this identifier.
+pub fn pair_cost(
+    top: TreeKind,
+    bottom: TreeKind,
+    kind: OtsKind,
+    id: &[u8; 16],
+    message: &[u8],
+    signature: &[u8],
+) -> PairCost {
+    let key_at = 12 + kind.signature_length() + 32 * top.height();
+    let by_top = signature.get(4..key_at).unwrap_or(&[]);
+    let key = signature.get(key_at..key_at + 56).unwrap_or(&[]);
+    let by_bottom = signature.get(key_at + 56..).unwrap_or(&[]);
+    let bottom_id = key.get(8..24).unwrap_or(&[]);
+    let of_key = by_identifier(top, kind, id, key, by_top);
+    let of_message = by_identifier(bottom, kind, bottom_id, message, by_bottom);
+    PairCost {
+        bottom: making(bottom, kind)
+            .saturating_add(2)
+            .saturating_add(of_key.0),
+        signing: of_message.0,
+        verifying: of_key.1.saturating_add(of_message.1),
+    }
 }

@@ -20,8 +20,9 @@ const GROUP: Group = Group {
 };
 
 const KINDS: Kinds = Kinds {
-    tree: TreeKind::H5,
     ots: OtsKind::W2,
+    tree: TreeKind::H5,
+    bottom: None,
 };
 
 /// A summary of page 0 from 2, without an entry: it lacks all that the node holds.

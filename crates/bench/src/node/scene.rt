@@ -22,8 +22,9 @@ pub const GROUP: Group = Group {
 };
 
 const KINDS: Kinds = Kinds {
-    tree: TreeKind::H10,
     ots: OtsKind::W4,
+    tree: TreeKind::H10,
+    bottom: None,
 };
 
 /// Member 0 as a node, and the key of all others, of which each has a note in the view.
