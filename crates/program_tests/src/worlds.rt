@@ -1,5 +1,7 @@
 //! Worlds, by `replay` and by `soak`.
 
+ghost use Rattle.records.specs.Spelling.{HasPort};
+
 use crate::runs::{answers, run_failing, run_on};
 use ff_ids::{Epoch, Group, Mask, MemberId, NoteBody};
 use fields::Bytes;
@@ -87,7 +89,9 @@ fn what_is_told_in_a_world_is_read(rt: HostRuntime) -> Result<(), Fail> {
 }
 
 /// A note of node 1.
-fn note() -> Body {
+fn note() -> Body
+    ensures { HasPort result }
+{
     Body::Note(NoteBody {
         member: MemberId::new(1),
         epoch: Epoch::new(9),
@@ -96,7 +100,9 @@ fn note() -> Body {
 }
 
 /// A certificate of a key of two levels.
-fn certificate() -> Body {
+fn certificate() -> Body
+    ensures { HasPort result }
+{
     Body::Certificate(CertBody {
         member: MemberId::new(3),
         port: 65_535,
@@ -130,7 +136,9 @@ fn signature(alloc: Global, group: &Group, number: u16, body: &Body) -> Result<V
 }
 
 /// A datagram with the body that the schedule never signed, by the key of this number, as digits.
-fn forged(alloc: Global, number: u16, body: Body) -> Result<String, Fail> {
+fn forged(alloc: Global, number: u16, body: Body) -> Result<String, Fail>
+    requires { HasPort body }
+{
     let group = Group {
         tag: [0; 16],
         t: 1,
@@ -138,9 +146,13 @@ fn forged(alloc: Global, number: u16, body: Body) -> Result<String, Fail> {
         period: 1,
         misses: 2,
     };
+    let signature = signature(alloc, &group, number, &body)?;
+    if signature.is_empty() || signature.len() > 9_004 {
+        return Err("no length of a signature".into());
+    }
     let forged = Record {
         body,
-        signature: Bytes::from_vec(signature(alloc, &group, number, &body)?),
+        signature: Bytes::from_vec(signature),
     };
     let mut bytes = [0x46, 0x46, 1, 4, 0, 2, 0, 1].to_vec(alloc)?;
     write_record(&forged, &mut bytes)?;
@@ -148,13 +160,9 @@ fn forged(alloc: Global, number: u16, body: Body) -> Result<String, Fail> {
 }
 
 /// The body that the schedule never signed ends the run with this line.
-fn is_named(
-    rt: &impl Abort,
-    alloc: Global,
-    number: u16,
-    body: Body,
-    line: &str,
-) -> Result<(), Fail> {
+fn is_named(rt: &impl Abort, alloc: Global, number: u16, body: Body, line: &str) -> Result<(), Fail>
+    requires { HasPort body }
+{
     let digits = forged(alloc, number, body)?;
     let rest = format!(in alloc; "raw 1 {digits}\nend\n")?;
     replays(rt, alloc, rest.as_str(), line, 4)
