@@ -143,7 +143,7 @@ impl Row {
         ensures most { 2 ^ (steps.new - steps.old) ≤ 2 * length self.now.order + 1 }
         ensures least { length self.now.order + 2 ≤ 2 * 2 ^ (steps.new - steps.old) }
     {
-        let place = self.search(slots, member, places, steps);
+        let place = self.search(slots, member, places, true, steps);
         if self.order.is_empty() {
             return None;
         }
@@ -169,7 +169,7 @@ impl Row {
         ensures most { 2 ^ (steps.new - steps.old) ≤ 2 * length self.now.order + 1 }
         ensures least { length self.now.order + 2 ≤ 2 * 2 ^ (steps.new - steps.old) }
     {
-        let place = self.search(slots, member, places, steps);
+        let place = self.search(slots, member, places, true, steps);
         self.behind(place, member)
     }
 
@@ -294,15 +294,17 @@ impl Row {
         ensures { IsBetween slots.now self.now (key_at self.now.ring places.now member) result
             result }
     {
-        self.search(slots, member, places, &mut Steps::<L>::open(blank))
+        self.search(slots, member, places, false, &mut Steps::<L>::open(blank))
     }
 
-    /// How many of the ring's members come before this one. Each step halves what is left.
+    /// How many of the ring's members come before this one. Each step halves what is left. Where the search is alone, its
+    /// steps wait for less and do more; several, one for each ring, wait together, and what they do counts.
     fn search<L: Ledger>(
         &self,
         slots: &Slots,
         member: MemberId,
         places: &Places,
+        alone: bool,
         steps: &mut Steps<L>,
     ) -> usize
         requires in_order { IsRow slots.now self.now }
@@ -316,7 +318,7 @@ impl Row {
     {
         let hint = places.hint(self.ring);
         let count = self.order.len();
-        self.halve(slots, 0, count, member, places, hint, steps)
+        self.halve(slots, 0, count, member, places, hint, alone, steps)
     }
 
     /// Whether the member is at the index, with this place.
@@ -376,7 +378,7 @@ impl Row {
         let count = self.order.len();
         let (low, high) = self.split_at(slots, 0, before, count, member, places, hint, steps);
         let (low, high) = self.split_at(slots, low, near, high, member, places, hint, steps);
-        self.halve(slots, low, high - low, member, places, hint, steps)
+        self.halve(slots, low, high - low, member, places, hint, false, steps)
     }
 
     /// How many of the ring's members come before this one: those up to an index do, and of those behind it so many at
@@ -389,6 +391,7 @@ impl Row {
         member: MemberId,
         places: &Places,
         hint: u32,
+        alone: bool,
         steps: &mut Steps<L>,
     ) -> usize
         requires in_order { IsRow slots.now self.now }
@@ -403,15 +406,50 @@ impl Row {
         ensures most { 2 ^ (steps.new - steps.old) ≤ 2 * count + 1 }
         ensures least { count < 2 ^ (steps.new - steps.old) }
     {
-        if self.told && is_telling(hint) {
-            self.halve_by_hints(slots, from, count, member, places, hint, steps)
-        } else {
+        if !self.told || !is_telling(hint) {
             self.halve_by_places(slots, from, count, member, places, hint, steps)
+        } else if alone {
+            self.halve_ahead(slots, from, count, member, places, hint, steps)
+        } else {
+            self.halve_by_hints(slots, from, count, member, places, hint, steps)
         }
     }
 
     /// As `halve`, where hints tell.
     fn halve_by_hints<L: Ledger>(
+        &self,
+        slots: &Slots,
+        from: usize,
+        count: usize,
+        member: MemberId,
+        places: &Places,
+        hint: u32,
+        steps: &mut Steps<L>,
+    ) -> usize
+        requires in_order { IsRow slots.now self.now }
+        requires long { length slots.now ≡ MEMBERS }
+        requires hinted { hint ≡ hint_on self.now.ring places.now }
+        requires told { self.now.told ≡ true }
+        requires tells { hint < 2 ^ 32 - 1 }
+        requires between { IsBetween slots.now self.now (key_at self.now.ring places.now member)
+            from (from + count) }
+        ensures place { IsBetween slots.now self.now (key_at self.now.ring places.now member) result
+            result }
+        ensures counted { steps.old ≤ steps.new }
+        ensures most { 2 ^ (steps.new - steps.old) ≤ 2 * count + 1 }
+        ensures least { count < 2 ^ (steps.new - steps.old) }
+    {
+        let mut low = from;
+        let mut left = count;
+        while 0 < left {
+            low += self.skipped_by_hints(slots, low, left, member, places, hint, steps);
+            left /= 2;
+        }
+        low
+    }
+
+    /// As `halve_by_hints`, for a search that is the only one: it waits for as little as it can, and does more.
+    fn halve_ahead<L: Ledger>(
         &self,
         slots: &Slots,
         from: usize,
@@ -534,8 +572,39 @@ impl Row {
         self.is_number_behind(slots, index, other, member, places, hint, steps)
     }
 
-    /// How far the search goes on, of so many members from an index on among which the place is, where some hints may not
-    /// tell: behind the middle one of them, or nowhere. Then half as many are left.
+    /// How far the search goes on, of so many members from an index on among which the place is: behind the middle one of
+    /// them, or nowhere. Then half as many are left.
+    #[inline]
+    fn skipped_by_hints<L: Ledger>(
+        &self,
+        slots: &Slots,
+        low: usize,
+        left: usize,
+        member: MemberId,
+        places: &Places,
+        hint: u32,
+        steps: &mut Steps<L>,
+    ) -> usize
+        requires in_order { IsRow slots.now self.now }
+        requires long { length slots.now ≡ MEMBERS }
+        requires hinted { hint ≡ hint_on self.now.ring places.now }
+        requires told { self.now.told ≡ true }
+        requires tells { hint < 2 ^ 32 - 1 }
+        requires between { IsBetween slots.now self.now (key_at self.now.ring places.now member) low
+            (low + left) }
+        requires some { 0 < left }
+        ensures between { IsBetween slots.now self.now (key_at self.now.ring places.now member)
+            (low + result) (low + result + left / 2) }
+        ensures fits { low + result < 2 ^ 64 }
+        ensures step { steps.new ≡ steps.old + 1 }
+    {
+        // A list of members is short enough for the sum.
+        let _ = &self.order;
+        let half = left - left / 2;
+        half * self.is_behind_by_hint(slots, low + half - 1, member, places, hint, steps)
+    }
+
+    /// As `skipped_by_hints`, where some hints may not tell.
     fn skipped_by_places<L: Ledger>(
         &self,
         slots: &Slots,
