@@ -13,7 +13,7 @@ import subprocess
 import time
 from collections import Counter
 from dataclasses import dataclass
-from typing import Optional
+from typing import Optional, Tuple
 
 from lines import Event, JournalReader, Turn
 from lives import Story
@@ -41,7 +41,7 @@ def end_with_parent():
 @dataclass(frozen=True)
 class Numbers:
     """The numbers of a group; a tick in milliseconds. With `bottom` the keys of members have two levels, of `height` above
-    trees of so many."""
+    trees of so many; the authority's has `above`, where that is given. With `heal` the kits have that line."""
 
     timeout: int = 40
     period: int = 5
@@ -51,6 +51,8 @@ class Numbers:
     height: int = 5
     t: int = 1
     bottom: Optional[int] = None
+    heal: Optional[Tuple[int, int]] = None
+    above: Optional[int] = None
 
     @property
     def timeout_seconds(self):
@@ -121,7 +123,8 @@ def dropped_at(port):
 
 
 class Node:
-    """A member's lives. Its journals are read as they are written; a line that is none of a journal raises LineError."""
+    """A member's lives. Its journals are read as they are written; a line that is none of a journal raises LineError. Lines are
+    kept until they are taken."""
 
     def __init__(self, program, folder, member):
         self.words = [program, "node", os.path.join(folder, f"{member}.store"), str(MOST_TURNS)]
@@ -219,6 +222,8 @@ class Group:
 
     `seen_ports` gives, for the members' own ports and a node, the ports that its kit names; without it the members' own."""
 
+    a_node = Node
+
     def __init__(self, program, folder, numbers, members, outside=None, tag=None, seen_ports=None):
         self.program = program
         self.folder = folder
@@ -227,7 +232,7 @@ class Group:
         self.everybody = sorted([*members, *self.outside])
         self.tag = tag or good_tag(numbers.t, list(members), self.everybody)
         self.ports = dict(zip(self.everybody, free_ports(len(self.everybody))))
-        self.nodes = {member: Node(program, folder, member) for member in members}
+        self.nodes = {member: self.a_node(program, folder, member) for member in members}
         self.make(seen_ports)
 
     def __enter__(self):
@@ -239,11 +244,12 @@ class Group:
 
     # ---- keys, certificates and kits
 
-    def text(self, form, *rest, bottom=None):
-        """A text with the kinds of the authority's key, or with bottom trees of a member's."""
+    def text(self, form, *rest, of_authority=False):
+        """A text with the kinds of a member's key, or of the authority's."""
         n = self.numbers
         group = f"group {n.t} {n.timeout} {n.period} {n.misses} {self.tag.hex()}"
-        kinds = f"kinds {n.width} {n.height}{'' if bottom is None else f' {bottom}'}"
+        height = f"{n.above or n.height}" if of_authority else f"{n.height}{'' if n.bottom is None else f' {n.bottom}'}"
+        kinds = f"kinds {n.width} {height}"
         return "\n".join([f"fireflies 1 {form}", group, kinds, *rest, "end", ""])
 
     def run(self, word, store, given):
@@ -253,30 +259,33 @@ class Group:
             raise Trouble(f"{word} of {store} ended with {ended.returncode}: {ended.stdout[-200:]}")
         return ended.stdout
 
-    def make_store(self, name, bottom=None):
+    def make_store(self, name, of_authority=False):
         """The secret and the public key of a new store."""
         secret = os.urandom(32).hex()
-        return secret, self.run("store", name, self.text("secret", f"secret {secret}", bottom=bottom)).split()[1]
+        text = self.text("secret", f"secret {secret}", of_authority=of_authority)
+        return secret, self.run("store", name, text).split()[1]
 
     def make(self, seen_ports):
-        authority, self.authority_key = self.make_store("authority")
+        authority, self.authority_key = self.make_store("authority", True)
         own = [member for member in self.everybody if self.outside.get(member) is None]
-        made = {member: self.make_store(member, self.numbers.bottom) for member in own}
+        made = {member: self.make_store(member) for member in own}
         keys = {member: key for member, (_, key) in made.items()}
         keys.update({member: key.hex() for member, key in self.outside.items() if key is not None})
 
         def certificates(ports):
             lines = [f"cert {member} {ports[member]} {keys[member]}" for member in self.everybody]
-            return self.run("enroll", "authority", self.text("roster", f"secret {authority}", *lines)).splitlines()
+            text = self.text("roster", f"secret {authority}", *lines, of_authority=True)
+            return self.run("enroll", "authority", text).splitlines()
 
         shared = None if seen_ports else certificates(self.ports)
         for member in self.nodes:
             self.write_kit(member, made[member][0], shared or certificates(seen_ports(self.ports, member)))
 
     def write_kit(self, member, secret, certificates):
-        head = [f"self {member} {secret}", f"authority {self.authority_key}", f"tick {self.numbers.tick}"]
+        heal = [] if self.numbers.heal is None else ["heal {} {}".format(*self.numbers.heal)]
+        head = [*heal, f"self {member} {secret}", f"authority {self.authority_key}", f"tick {self.numbers.tick}"]
         with open(os.path.join(self.folder, f"{member}.kit"), "w") as kit:
-            kit.write(self.text("kit", *head, *certificates, bottom=self.numbers.bottom))
+            kit.write(self.text("kit", *head, *certificates))
 
     # ---- lives
 

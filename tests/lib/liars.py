@@ -3,7 +3,7 @@
 import os
 import threading
 
-from floods import ALL_RINGS, HEAD, PING, PONG, SUMMARY, accusation_body, datagram, note_body, records
+from floods import HEAD, PING, PONG, SUMMARY, accusation_body, datagram, note_body, records
 from group import LOOPBACK, bound
 from kit import HEIGHTS, WIDTHS
 from lms import OTS, digits, sha, u16, u32
@@ -58,7 +58,8 @@ class Liar(threading.Thread):
     def __init__(self, group, member, key, courted=()):
         super().__init__(daemon=True)
         self.group, self.member, self.key = group, member, key
-        self.note = records(member, [self.signed(note_body(member, 1, ALL_RINGS))])
+        all_rings = 2 ** (2 * group.numbers.t + 1) - 1
+        self.note = records(member, [self.signed(note_body(member, 1, all_rings))])
         self.courted = set(courted)
         self.over = threading.Event()
         self.link = bound(group.ports[member])
@@ -80,10 +81,13 @@ class Liar(threading.Thread):
     def send(self, member, data):
         self.link.sendto(data, (LOOPBACK, self.group.ports[member]))
 
-    def accuse(self, member, epoch, rings):
-        """Accuses it in one datagram on each of these rings, each time at the epoch of its answer to the one before."""
+    def accuse(self, member, epoch, rings, others=()):
+        """Accuses it in one datagram on each of these rings, each time at the epoch of its answer to the one before. These
+        others are told it too."""
         bodies = [accusation_body(self.member, member, epoch + place, ring) for place, ring in enumerate(rings)]
-        self.send(member, records(self.member, [self.signed(body) for body in bodies]))
+        told = records(self.member, [self.signed(body) for body in bodies])
+        for to in (*others, member):
+            self.send(to, told)
 
     def run(self):
         while not self.over.is_set():

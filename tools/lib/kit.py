@@ -56,6 +56,17 @@ class Kinds:
 
 
 @dataclass(frozen=True)
+class Heal:
+    """`heal N A`"""
+
+    every: int
+    most: int
+
+    def __str__(self):
+        return f"{self.every} {self.most}"
+
+
+@dataclass(frozen=True)
 class Certified:
     """`cert M PORT KEY SIGNATURE`; in a roster without the signature. Key and signature are bytes."""
 
@@ -76,11 +87,12 @@ class Certified:
 
 @dataclass
 class Text:
-    """A kit or a roster. Of a roster `member`, `authority` and `tick` are None."""
+    """A kit or a roster. Of a roster `member`, `authority` and `tick` are None, and `heal` is where a kit has no such line."""
 
     form: str
     group: Group
     kinds: Kinds
+    heal: Optional[Heal] = None
     member: Optional[int] = None
     authority: Optional[bytes] = None
     tick: Optional[int] = None
@@ -137,6 +149,11 @@ def one_level_kinds_of(words):
     return found
 
 
+def heal_of(words):
+    words.one_of("heal")
+    return Heal(words.number_in(2, 1000, "N"), words.number_in(0, 1000, "A"))
+
+
 def certified(words, is_signed):
     words.one_of("cert")
     member, port = words.member(), words.number_in(1, 65535, "PORT")
@@ -174,12 +191,17 @@ HEADS = {
     "kit": (
         ("group", group_of),
         ("kinds", kinds_of),
+        ("heal", heal_of),
         ("member", own_member),
         ("authority", authority_of),
         ("tick", tick_of),
     ),
     "roster": (("group", group_of), ("kinds", one_level_kinds_of), (None, secret)),
 }
+
+
+# The lines that a text may do without.
+MAY_LACK = {"heal"}
 
 
 # ---- texts
@@ -197,15 +219,19 @@ def read_text(data, form):
 
     if line(0, f"`fireflies 1 {form}`")[1] != f"fireflies 1 {form}":
         raise LineError(1, f"`fireflies 1 {form}`")
-    found = {}
-    for index, (name, reads) in enumerate(HEADS[form], 1):
-        words = of_words(*line(index, f"line {index + 1} of a {form}"))
+    found, index = {}, 1
+    for name, reads in HEADS[form]:
+        numbered = line(index, f"line {index + 1} of a {form}")
+        if name in MAY_LACK and numbered[1].split(" ")[0] != name:
+            continue
+        words = of_words(*numbered)
         value = reads(words)
         words.end()
+        index += 1
         if name:
             found[name] = value
     text = Text(form, **found)
-    for index in range(len(HEADS[form]) + 1, len(lines)):
+    for index in range(index, len(lines)):
         number, written = lines[index]
         if written == "end":
             return finished(text, lines, index)

@@ -483,6 +483,7 @@ WORLD_STEPS = {
         None,
     ),
     "kinds": ((kinds_of_key,), None),
+    "heal": ((ranged(2, 1000, "N"), ranged(0, 1000, "A")), None),
     "node": ((MEMBER,), None),
     "liar": ((MEMBER,), None),
     "begin": ((), None),

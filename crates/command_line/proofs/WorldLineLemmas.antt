@@ -56,6 +56,7 @@ pub clear-line : (digits : List ℕ) (l : WorldLine) → list_all is_word (spell
 clear-line digits lines.Header words = by-words lines.Header words
 clear-line digits (lines.Group g) words = clear-group g
 clear-line digits (lines.Kinds ots tree bottom) words = by-words (lines.Kinds ots tree bottom) words
+clear-line digits (lines.Heal h) words = by-words (lines.Heal h) words
 clear-line digits (lines.Node m) words = by-words (lines.Node m) words
 clear-line digits (lines.Liar m) words = by-words (lines.Liar m) words
 clear-line digits lines.Begin words = by-words lines.Begin words
@@ -122,6 +123,7 @@ begins : (l : WorldLine) (rest : List ℕ) → get_or (line_text l ++ rest) 0 0 
 begins lines.Header rest e = absurd (omega (arith, e))
 begins (lines.Group g) rest e = absurd (omega (arith, e))
 begins (lines.Kinds ots tree bottom) rest e = absurd (omega (arith, e))
+begins (lines.Heal h) rest e = absurd (omega (arith, e))
 begins (lines.Node m) rest e = absurd (omega (arith, e))
 begins (lines.Liar m) rest e = absurd (omega (arith, e))
 begins lines.Begin rest e = absurd (omega (arith, e))

@@ -63,6 +63,7 @@ impl Member {
             authority: directory.authority,
             certificates: directory.check(alloc)?,
             nonce_seed,
+            heal: None,
         };
         ensure!(kit.is_sound(&public), "no certificate of this member's key");
         let mut answer = Answer::new(alloc);

@@ -8,3 +8,4 @@ pub mod Lives
 pub mod Keys
 pub mod Texts
 pub mod Summaries
+pub mod Heals

@@ -9,10 +9,12 @@ ghost use Rattle.ff_ids.specs.Views.{in_view_by};
 ghost use Rattle.ff_ids.specs.Keys.{listed};
 
 mod digits;
+mod heal;
 mod summary;
 mod text;
 
 pub use digits::{Digits, digit, digit_byte};
+pub use heal::Heal;
 use std::marker::Model;
 pub use summary::{EntryList, RecordKey, Summary, SummaryEntry};
 

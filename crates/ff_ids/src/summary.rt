@@ -113,4 +113,6 @@ pub enum RecordKey {
     Note(MemberId),
     /// The accusation against this member on this ring.
     Accusation(MemberId, RingNo),
+    /// The accusation by which this member was removed.
+    Removal(MemberId),
 }

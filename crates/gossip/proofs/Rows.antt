@@ -4,11 +4,12 @@ use Rattle.ff_ids.specs.declared.Group.{Group}
 use Rattle.ff_ids.specs.declared.summary.SummaryEntry.{SummaryEntry}
 use Rattle.ff_ids.specs.declared.summary.RecordKey.{RecordKey}
 use Rattle.ff_ids.specs.declared.summary.RecordKey.TheVariants.{Certificate, Note, Accusation}
+use Rattle.ff_ids.specs.Heals.{Heal}
 use Rattle.ff_ids.specs.Views.{State, all_numbers, in_view_by}
 use Rattle.ff_ids.specs.Steps.{Event, Joins, Notes}
 use Rattle.ff_ids.specs.Lives.{after, opening}
 use Rattle.gossip.specs.Differ.{differ}
-use Rattle.gossip.specs.Partners.{partner, page_of}
+use Rattle.gossip.specs.Partners.{partner, partner_with, page_of, page_with}
 
 abbrev entry : ℕ → ℕ → ℕ → ℕ → SummaryEntry
 entry member epoch mask rings = record { member = member; epoch = epoch; mask = record { 0 = mask }; rings = rings }
@@ -86,3 +87,38 @@ member_in_turn = (refl, refl, refl, refl)
 
 pages : (page_of 0 3 63 ≡ 0) × (page_of 2 3 63 ≡ 0) × (page_of 3 3 63 ≡ 1) × (page_of 6 3 63 ≡ 0) × (page_of 2016 63 1023 ≡ 0)
 pages = (refl, refl, refl, refl, refl)
+
+-- ---- rounds that go out of the view
+
+-- One round of three.
+abbrev heal : Heal
+heal = record { every = 3; most = 1 }
+
+-- 40 and 50 are in no view.
+abbrev more : List ℕ
+more = 1 ∷ 2 ∷ 3 ∷ 40 ∷ 50 ∷ []
+
+out_of_three : (partner_with (Some heal) 1 viewed more 2 0 ≡ Some 3)
+    × (partner_with (Some heal) 1 viewed more 2 1 ≡ Some 1)
+    × (partner_with (Some heal) 1 viewed more 2 2 ≡ Some 40)
+    × (partner_with (Some heal) 1 viewed more 2 3 ≡ Some 1)
+    × (partner_with (Some heal) 1 viewed more 2 5 ≡ Some 50)
+    × (partner_with (Some heal) 1 viewed certified 2 2 ≡ Some 1)
+    × (partner_with None 1 viewed more 2 2 ≡ Some 1)
+unfolding all_numbers in_view_by
+out_of_three = (refl, refl, refl, refl, refl, refl, refl)
+
+-- Where the view has at most two members, it is one round of two.
+out_of_two : (partner_with (Some heal) 1 lone certified 2 0 ≡ Some 1)
+    × (partner_with (Some heal) 1 lone certified 2 1 ≡ Some 1)
+    × (partner_with (Some heal) 1 lone certified 2 2 ≡ Some 3)
+    × (partner_with (Some heal) 1 lone certified 2 3 ≡ Some 3)
+unfolding all_numbers in_view_by
+out_of_two = (refl, refl, refl, refl)
+
+pages_out : (page_with (Some heal) viewed more 2 2 3 50 ≡ 1)
+    × (page_with (Some heal) viewed more 2 3 3 50 ≡ 0)
+    × (page_with (Some heal) viewed more 2 4 3 50 ≡ 1)
+    × (page_with None viewed more 2 2 3 50 ≡ 0)
+unfolding all_numbers in_view_by
+pages_out = (refl, refl, refl, refl)

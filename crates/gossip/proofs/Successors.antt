@@ -1,17 +1,18 @@
 -- A successor is another member, where each note is of a member.
-use Rattle.std.proofs.Common.{◌≡◌, ℕ, zero, suc, ◌%◌, ◌<◌, ◌↔◌, Bool, true, false, not, cond, eqb, List, [], ◌∷◌, Option, Some, None, map, refl, ap, sym, ◌∙◌, arith, length, get_or}
+use Rattle.std.proofs.Common.{◌≡◌, ℕ, zero, suc, ◌/◌, ◌%◌, ◌<◌, ◌↔◌, Bool, true, false, not, cond, eqb, List, [], ◌∷◌, Option, Some, None, map, refl, ap, sym, ◌∙◌, arith, length, get_or}
 use Rattle.std.specs.Prelude.{◌&&◌, ◌||◌, filter, find}
 use Rattle.std.specs.List.{list_all}
 use Rattle.std.specs.List.{slice_get}
 use Rattle.std.specs.Option.{option_map, option_or}
 use Rattle.std.proofs.lemmas.Bool.{eqb-true, eq-eqb, and_parts, or_right, true≢false}
 use Rattle.std.proofs.lemmas.Option.{slice_get-get_or}
+use Rattle.ff_ids.specs.Heals.{Heal}
 use Rattle.ff_ids.specs.declared.NoteBody.{NoteBody}
 use Rattle.ff_ids.specs.Masks.{ring_count}
 use Rattle.ff_ids.specs.Notes.{greater_note, newest}
 use Rattle.ff_ids.specs.Rings.{Key, others}
 use Rattle.ff_ids.specs.Views.{State, all_numbers, viewed_by, is_member, in_view, key_of, successor}
-use Rattle.gossip.specs.Partners.{is_listed, others as other_numbers, in_turn, partner, NotesOfMembers}
+use Rattle.gossip.specs.Partners.{is_listed, others as other_numbers, in_turn, partner, outsiders, share, is_outward, plain_round, outsider_with, partner_with, NotesOfMembers}
 
 -- It passes the test, and is another.
 pub record IsOther (p : ℕ → Bool) (me v : ℕ) : Type 0 where
@@ -130,7 +131,46 @@ partner-none t s certified me round known = (nobody, alone)
         by_successor None is = ap (λ ns. in_turn ns round) none
         by_successor (Some v) is = absurd (true≢false (sym (successor_listed s certified (round % ring_count t) me v known is) ∙ ap (λ ns. is_listed ns v) none))
 
--- nobody's turn among none
-pub in_turn-none : (numbers : List ℕ) (round : ℕ) → length numbers ≡ 0 → None ≡ in_turn numbers round
-in_turn-none [] round e = refl
-in_turn-none (x ∷ numbers) round e = absurd (omega arith)
+-- ---- where nodes are to come together again
+
+kept_here : (x v : ℕ) (numbers kept : List ℕ) (b : Bool) → (is_listed kept v ≡ true → is_listed numbers v ≡ true) → is_listed (cond b (x ∷ kept) kept) v ≡ true → is_listed (x ∷ numbers) v ≡ true
+kept_here x v numbers kept true rest h = by_number (eqb x v) h
+  where
+    by_number : (b : Bool) → (b || is_listed kept v) ≡ true → (b || is_listed numbers v) ≡ true
+    by_number true is = refl
+    by_number false is = rest is
+kept_here x v numbers kept false rest h = or_right (eqb x v) (is_listed numbers v) (rest h)
+
+kept-listed : (q : ℕ → Bool) (numbers : List ℕ) (v : ℕ) → is_listed (filter q numbers) v ≡ true → is_listed numbers v ≡ true
+kept-listed q [] v h = h
+kept-listed q (x ∷ numbers) v h = kept_here x v numbers (filter q numbers) (q x) (kept-listed q numbers v) h
+
+outsider-listed : (heal : Option Heal) (s : State) (certified : List ℕ) (me round p : ℕ) → outsider_with heal s certified me round ≡ Some p → is_listed (other_numbers certified me) p ≡ true
+outsider-listed None s certified me round p e = absurd (cc)
+outsider-listed (Some heal) s certified me round p e = by_round (is_outward (share heal s) round) e
+  where
+    by_round : (b : Bool) → cond b (in_turn (outsiders s certified me) (round / share heal s)) None ≡ Some p → is_listed (other_numbers certified me) p ≡ true
+    by_round true is = kept-listed (λ m. not (in_view s m)) (other_numbers certified me) p (in_turn-listed (outsiders s certified me) (round / share heal s % length (outsiders s certified me)) p is)
+    by_round false is = absurd (cc)
+
+pub partner_with-listed : (heal : Option Heal) (t : ℕ) (s : State) (certified : List ℕ) (me round p : ℕ) → IsKnown s certified → partner_with heal t s certified me round ≡ Some p → is_listed (other_numbers certified me) p ≡ true
+partner_with-listed heal t s certified me round p known e = by_outsider (outsider_with heal s certified me round) refl e
+  where
+    by_outsider : (o : Option ℕ) → outsider_with heal s certified me round ≡ o → option_or o (partner t s certified me (plain_round heal s round)) ≡ Some p → is_listed (other_numbers certified me) p ≡ true
+    by_outsider None is h = partner-listed t s certified me (plain_round heal s round) p known h
+    by_outsider (Some v) is h = outsider-listed heal s certified me round p (is ∙ h)
+
+pub partner_with-none : (heal : Option Heal) (t : ℕ) (s : State) (certified : List ℕ) (me round : ℕ) → IsKnown s certified → (partner_with heal t s certified me round ≡ None) ↔ (other_numbers certified me ≡ [])
+partner_with-none heal t s certified me round known =
+    (λ e. plain.0 (alone (outsider_with heal s certified me round) e), λ none. by_outsider none (outsider_with heal s certified me round) refl)
+  where
+    plain : (partner t s certified me (plain_round heal s round) ≡ None) ↔ (other_numbers certified me ≡ [])
+    plain = partner-none t s certified me (plain_round heal s round) known
+
+    alone : (o : Option ℕ) → option_or o (partner t s certified me (plain_round heal s round)) ≡ None → partner t s certified me (plain_round heal s round) ≡ None
+    alone None h = h
+    alone (Some v) h = absurd (cc)
+
+    by_outsider : other_numbers certified me ≡ [] → (o : Option ℕ) → outsider_with heal s certified me round ≡ o → option_or o (partner t s certified me (plain_round heal s round)) ≡ None
+    by_outsider none None is = plain.1 none
+    by_outsider none (Some v) is = absurd (true≢false (sym (outsider-listed heal s certified me round v is) ∙ ap (λ ns. is_listed ns v) none))

@@ -3,7 +3,7 @@
 #![tactic(auto)]
 
 pub use lacking::lacks;
-pub use partners::{page_of, partner};
+pub use partners::{Exchange, exchange_of, page_of};
 
 mod lacking;
 mod partners;

@@ -173,6 +173,44 @@ fn pages_list_the_certified_with_their_newest_notes(rt: HostRuntime) -> Result<(
     Ok(())
 }
 
+/// Whether an accusation against member 0 is held on each of rings 1 and 2, and one by which it was removed.
+fn held_against(set: &RecordSet) -> (bool, bool, bool) {
+    let member = MemberId::new(0);
+    (
+        set.contains(&RecordKey::Accusation(member, RingNo(1))),
+        set.contains(&RecordKey::Accusation(member, RingNo(2))),
+        set.contains(&RecordKey::Removal(member)),
+    )
+}
+
+#[test]
+fn an_accusation_is_retired_to_the_removal(rt: HostRuntime) -> Result<(), Fail> {
+    let member = MemberId::new(0);
+    let mut set = filled(&rt, rt.alloc())?;
+    assert_eq!(rt; held_against(&set), (true, true, false));
+    set.retire(member, RingNo(2));
+    assert_eq!(rt; held_against(&set), (true, false, true));
+    compare_page(&rt, &set, 0, &[entry(member, 2, 6, 2)]);
+    set.retire(member, RingNo(1));
+    assert_eq!(rt; held_against(&set), (false, false, true));
+    set.drop_removal(member);
+    assert_eq!(rt; held_against(&set), (false, false, false));
+    assert!(rt;
+        set.contains(&RecordKey::Note(member)) && set.contains(&RecordKey::Certificate(member))
+    );
+    Ok(())
+}
+
+#[test]
+fn nothing_is_retired_where_no_accusation_is_held(rt: HostRuntime) -> Result<(), Fail> {
+    let member = MemberId::new(0);
+    let mut set = filled(&rt, rt.alloc())?;
+    set.retire(member, RingNo(1));
+    set.retire(member, RingNo(63));
+    assert_eq!(rt; held_against(&set), (false, true, false));
+    Ok(())
+}
+
 /// So many records are picked for the room, and they take so many bytes behind the one that was there.
 fn compare_pick(
     rt: &impl Abort,

@@ -1,9 +1,17 @@
-//! What is lacking between two summaries, and the pages of rounds.
+//! What is lacking between two summaries, and the partners and the pages of rounds.
 
-use ff_ids::{Mask, MemberId, RecordKey, RingNo, Summary, SummaryEntry};
+ghost use Rattle.std.specs.Prelude.{◌≡◌};
+
+use ff_ids::{
+    Epoch, Group, Heal, MAX_TOLERANCE, Mask, MemberId, NoteBody, RecordKey, RingNo, Summary,
+    SummaryEntry,
+};
 use fields::NoMemory;
-use gossip::{lacks, page_of};
+use gossip::{exchange_of, lacks, page_of};
+use membership::{Changes, Membership};
+use ring_order::number_places;
 use std::alloc::Global;
+use std::process::Abort;
 use std::test::Fail;
 
 /// An entry, as member, epoch, mask and rings.
@@ -91,4 +99,85 @@ fn each_page_comes_for_as_many_rounds_as_there_are_rings(rt: HostRuntime) {
             assert_eq!(rt; page_of(*round, *k, MemberId::new(*highest)), *page);
         }
     }
+}
+
+/// The member joins with these places and enters by its first note.
+fn enter(life: &mut Membership, out: &mut Changes, member: MemberId, places: &[u32; 3])
+    requires { life.old.group.t ≡ 1 }
+    ensures { life.new.group.t ≡ 1 }
+{
+    let _joined = life.add_member(member, number_places(places));
+    let note = NoteBody {
+        member,
+        epoch: Epoch::new(1),
+        mask: Mask(7),
+    };
+    let _entered = life.put_note(note, out);
+}
+
+/// A life in whose view are 5, 9 and 11: in this order on rings 0 and 2, and 5, 11, 9 on ring 1.
+fn three(alloc: Global) -> Result<Membership, NoMemory> {
+    let group = Group {
+        tag: [7; 16],
+        t: 1,
+        timeout: 1,
+        period: 1,
+        misses: 1,
+    };
+    let mut out = Changes::new(alloc)?;
+    let mut life = Membership::open(alloc, group)?;
+    enter(&mut life, &mut out, MemberId::new(5), &[10, 2, 5]);
+    enter(&mut life, &mut out, MemberId::new(9), &[20, 9, 5]);
+    enter(&mut life, &mut out, MemberId::new(11), &[30, 5, 7]);
+    Ok(life)
+}
+
+/// The partner and the page of the round of 5, of which one of so many goes out of the view, or with 0 none.
+fn exchange(life: &Membership, every: u16, round: u64) -> Option<(u16, u8)> {
+    let (me, last) = (MemberId::new(5), MemberId::new(50));
+    let certified = [
+        me,
+        MemberId::new(9),
+        MemberId::new(11),
+        MemberId::new(40),
+        last,
+    ];
+    if life.is_member(me) && life.group().t <= MAX_TOLERANCE {
+        let found = exchange_of(Heal::new(every, 0), life, &certified, last, me, round)?;
+        Some((found.partner.get(), found.page))
+    } else {
+        None
+    }
+}
+
+/// These are the partner and the page of the round.
+fn compare_rounds(rt: &impl Abort, life: &Membership, every: u16, rows: &[(u64, u16, u8)]) {
+    for (round, partner, page) in rows {
+        assert_eq!(rt; exchange(life, every, *round), Some((*partner, *page)));
+    }
+}
+
+#[test]
+fn one_round_of_so_many_goes_out_of_the_view(rt: HostRuntime) -> Result<(), Fail> {
+    let life = three(rt.alloc())?;
+    assert_eq!(rt; life.view().len(), 3);
+    let rows = [
+        (0u64, 9u16, 0u8),
+        (1, 11, 0),
+        (2, 40, 1),
+        (3, 9, 0),
+        (4, 9, 1),
+        (5, 50, 1),
+        (8, 40, 1),
+        (u64::MAX, 11, 1),
+    ];
+    compare_rounds(&rt, &life, 3, &rows);
+    Ok(())
+}
+
+#[test]
+fn no_round_goes_out_of_the_view_without_the_option(rt: HostRuntime) -> Result<(), Fail> {
+    let life = three(rt.alloc())?;
+    compare_rounds(&rt, &life, 0, &[(2, 9, 0), (3, 9, 1), (5, 9, 1)]);
+    Ok(())
 }

@@ -46,7 +46,7 @@ use Rattle.node_loop.specs.Courses.{ServeState}
 use Rattle.node_command.specs.Departures.{Departs, AtTick, ByNote, ByItself, LeavesByNote, LeavesItself}
 use Rattle.node_command.specs.Removals.{node_behind}
 use Rattle.node_command.proofs.OriginLemmas.{key-served, node-served}
-use Rattle.node_command.proofs.RemovalLemmas.{IsFound, IsGrown, IsRemoving, Suits, TicksTell, event-not, found, good-stays, grown-handles, grown-heard, grown-left, grown-left_until, grown-same, removal, removal-by, removed-last, removes, reported, same-note, ticked-told, ticked_until-told, ticks-away, told-removed}
+use Rattle.node_command.proofs.RemovalLemmas.{IsFound, IsGrown, IsRemoving, Suits, TicksTell, back-stays, event-not, found, good-stays, grown-handles, grown-heard, grown-left, grown-left_until, grown-same, removal, removal-by, removed-last, removes, reported, same-note, ticked-told, ticked_until-told, ticks-away, told-removed}
 use Rattle.node_command.proofs.ReplyLemmas.{IsAmong, TakesNow, accepts, nil-right, takes-among}
 
 -- ## The note of a member that leaves
@@ -72,7 +72,7 @@ notes-body s (Accusation a) note e = cc
 
 -- The answer to an accusation enables a ring.
 leaver-suits : (s : Setting) (n : Node) (all done : List Record) (r : Record) (rest : List Record) (m : ℕ) → all ≡ done ++ r ∷ rest → 1 ≤ s.group.t → KeepsOwnNote s (when_all_handled s n done) → Suits (Leavers s n all m) s (when_all_handled s n done) r
-leaver-suits s n all done r rest m split some own = record { taken = taken; answered = answered }
+leaver-suits s n all done r rest m split some own = record { taken = taken; answered = answered; returned = λ a asks x. absurd (back-stays s (when_all_handled s n done) r a asks m x) }
   where
     here : Node
     here = when_all_handled s n done

@@ -16,7 +16,7 @@ use Rattle.signer.specs.Lives.{Spent}
 use Rattle.signer.specs.Signing.{stored_after}
 use Rattle.node_rules.specs.Nodes.{Setting, Node, event_of, state_of}
 use Rattle.node_rules.specs.Calls.{Call, begun, lives, own_record, sends, signs, spends, takes, tells, told_of}
-use Rattle.node_rules.specs.Deliveries.{answer_to}
+use Rattle.node_rules.specs.Deliveries.{answer_to, returning_note}
 use Rattle.node_rules.specs.Leaving.{leaving}
 use Rattle.node_rules.specs.Lives.{Input, Delivers, Ticks, Leaves, call_of}
 use Rattle.node_rules.specs.Starting.{blank, first_note, opened, started}
@@ -26,7 +26,7 @@ use Rattle.node_rules.proofs.Small.{stored-signs, stored-takes}
 use Rattle.node_core.specs.Rolls.{recs_of}
 use Rattle.node_core.specs.Spending.{spent_by, spent_told}
 use Rattle.node_core.proofs.SpendLemmas.{report-none, told-append}
-use Rattle.node_loop.specs.Turns.{Act, Receives, Writes, Calls, life_acts}
+use Rattle.node_loop.specs.Turns.{Act, Receives, Writes, Calls, life_acts, pace_for}
 use Rattle.node_loop.specs.Courses.{ServeState, acted, datagram_in, fails_next, gives, hands_over, may_tick, moves, served, served_from, tells_all, tells_what, writes_event}
 use Rattle.node_loop.specs.Courses as courses
 use Rattle.node_loop.proofs.CourseLemmas.{node-gives, served-cons, served-nil}
@@ -107,12 +107,15 @@ keeping s first =
       told = λ what c beside h. kept-tells s first what c (beside-none what beside) h;
       sent = λ d c to h. kept-sends s first d c to h;
       taken = λ r c fine h. kept-takes s first r c h;
-      answered = λ r a c fine is me left h. kept-signs s first (answer_to s (takes s r c).node.stored a) (takes s r c) (kept-takes s first r c h);
+      answered = λ r a c fine is me may left h. kept-signs s first (answer_to s (takes s r c).node.stored a) (takes s r c) (kept-takes s first r c h);
+      returned = λ r a c asks may left h. kept-signs s first (Note (returning_note s c.node.stored)) c h;
       accused = λ a c by left h. kept-signs s first (Accusation a) c h;
       departed = λ c left h. kept-signs s first (leaving s c.node.stored) c h;
       stopped = λ c h. kept-tells s first told.Stopped c refl h;
       passed = λ c h. kept-passes s first c h;
       probed = λ p c h. h;
+      spanned = λ c h. h;
+      spread = λ c h. h;
     }
 
 call-kept : (s : Setting) (n : Node) (i : Input) → (call_of s n i).node.stored ≡ kept_behind n.stored (spent_told (call_of s n i).told)
@@ -181,7 +184,7 @@ served-kept s first bound [] r h = subst (KeepsOn first bound) (sym (served-nil 
 served-kept s first bound (act ∷ acts) r h = subst (KeepsOn first bound) (sym (served-cons s act acts r)) (served-kept s first bound acts (acted s r act) (acted-kept s first bound r act h))
 
 life-on : (m : Member) (stored : Stored) (feed : NetInputs) → KeepsOn (start_of m stored).node.stored (Some (own_port m)) (life_in m stored feed)
-life-on m stored feed = served-kept (setting_for m) (start_of m stored).node.stored (Some (own_port m)) (life_acts m.millis feed.stay.turns feed.stay.leave feed.link.coming feed.reading feed.readings) (served_from (start_of m stored).node (bound_for m feed.link)) (record { kept = refl; link = refl })
+life-on m stored feed = served-kept (setting_for m) (start_of m stored).node.stored (Some (own_port m)) (life_acts (pace_for (setting_for m) m.millis) feed.stay.turns feed.stay.leave feed.link.coming feed.reading feed.readings) (served_from (start_of m stored).node (bound_for m feed.link)) (record { kept = refl; link = refl })
 
 pub life-kept : (m : Member) (stored : Stored) (feed : NetInputs) → (life_in m stored feed).node.stored ≡ kept_behind stored (spent_told (start_of m stored).told ++ (life_in m stored feed).spent)
 life-kept m stored feed =

@@ -23,6 +23,7 @@ use Rattle.std.proofs.lemmas.List.Elements.{All-cons, All-nil}
 use Rattle.std.proofs.lemmas.List.Folds.{list_any-append}
 use Rattle.sha2.proofs.Facts256.{length-sha256}
 use Rattle.ff_ids.specs.declared.Group.{Group}
+use Rattle.ff_ids.specs.Heals.{Heal}
 use Rattle.lms_tree.specs.declared.key.PublicKey.{PublicKey}
 use Rattle.lms_tree.specs.declared.secret.Secret.{Secret}
 use Rattle.lms_tree.specs.Lms.{public_of}
@@ -262,20 +263,23 @@ record IsOwner (owner : Owner) (own : Own) : Type 0 where
   new : IsOwnKey own.key
 
 record FitsOwned (owner : Owner) (u : SetUp) : Type 0 where
+  heal : Option Heal
   own : Own
-  is : u ≡ record { group = Some owner.group; own = Some own; authority = None; millis = None; certificates = [] }
+  is : u ≡ record { group = Some owner.group; heal = heal; own = Some own; authority = None; millis = None; certificates = [] }
   owner_is : IsOwner owner own
 
 record FitsAuthorized (owner : Owner) (authority : PublicKey) (u : SetUp) : Type 0 where
+  heal : Option Heal
   own : Own
-  is : u ≡ record { group = Some owner.group; own = Some own; authority = Some authority; millis = None; certificates = [] }
+  is : u ≡ record { group = Some owner.group; heal = heal; own = Some own; authority = Some authority; millis = None; certificates = [] }
   owner_is : IsOwner owner own
 
 record FitsBody (owner : Owner) (authority : PublicKey) (named : List Bool) (ownkey : Option Key) (u : SetUp) : Type 0 where
+  heal : Option Heal
   own : Own
   millis : ℕ
   certificates : List CheckedRecord
-  is : u ≡ record { group = Some owner.group; own = Some own; authority = Some authority; millis = Some millis; certificates = certificates }
+  is : u ≡ record { group = Some owner.group; heal = heal; own = Some own; authority = Some authority; millis = Some millis; certificates = certificates }
   owner_is : IsOwner owner own
   pace : 1 ≤ millis
   room : length named ≡ MEMBERS
@@ -286,11 +290,12 @@ record FitsBody (owner : Owner) (authority : PublicKey) (named : List Bool) (own
 -- It is all set up, but for what the type of the certificates says.
 pub record IsUp (u : SetUp) : Type 0 where
   pub group : Group
+  pub heal : Option Heal
   pub own : Own
   pub authority : PublicKey
   pub millis : ℕ
   pub certificates : List CheckedRecord
-  pub is : u ≡ record { group = Some group; own = Some own; authority = Some authority; millis = Some millis; certificates = certificates }
+  pub is : u ≡ record { group = Some group; heal = heal; own = Some own; authority = Some authority; millis = Some millis; certificates = certificates }
   pub numbers : IsGroup group
   pub pace : 1 ≤ millis
   pub fresh : IsNew own.key (secret_of own.key)
@@ -304,14 +309,16 @@ record FitsGroup (g : Group) (u : SetUp) : Type 0 where
   numbers : shared.IsGroup g
 
 record FitsKinds (g : Group) (kinds : Kinds) (u : SetUp) : Type 0 where
-  group : FitsGroup g u
+  heal : Option Heal
+  is : u ≡ record nothing_up { group = Some g; heal = heal }
+  numbers : shared.IsGroup g
   kinds_fit : is_in_profile kinds ≡ true
 
 abbrev Fits : KitText → SetUp → Type 0
 Fits kit.Start u = u ≡ nothing_up
 Fits kit.Headed u = u ≡ nothing_up
 Fits (kit.Grouped g) u = FitsGroup g u
-Fits (kit.Kinded g kinds) u = FitsKinds g kinds u
+Fits (kit.Kinded g kinds heal) u = FitsKinds g kinds u
 Fits (kit.Owned owner) u = FitsOwned owner u
 Fits (kit.Authorized owner authority) u = FitsAuthorized owner authority u
 Fits (kit.Body owner authority named ownkey) u = FitsBody owner authority named ownkey u
@@ -320,9 +327,10 @@ Fits kit.Ended u = IsUp u
 own-up : (g : Group) (kinds : Kinds) (m : ℕ) (secret : List ℕ) (own_key : SignKey) (u : SetUp) → new_key (key_from kinds secret) ≡ own_key → FitsKinds g kinds u
     → FitsOwned (record { group = g; member = m; key = public_key (secret_of own_key) }) (sets u (lines.Own m secret own_key))
 own-up g kinds m secret own_key u made fits = record {
+  heal = fits.heal;
   own = record { member = m; secret = secret; key = own_key };
-  is = ap (λ (v : SetUp). sets v (lines.Own m secret own_key)) fits.group.is;
-  owner_is = record { group = fits.group.numbers; member = refl; key = refl; new = subst IsOwnKey made (own-new (key_from kinds secret) (long-from kinds secret fits.kinds_fit)) };
+  is = ap (λ (v : SetUp). sets v (lines.Own m secret own_key)) fits.is;
+  owner_is = record { group = fits.numbers; member = refl; key = refl; new = subst IsOwnKey made (own-new (key_from kinds secret) (long-from kinds secret fits.kinds_fit)) };
 }
 
 -- A certificate of a number that had none, of a key that is one.
@@ -359,6 +367,7 @@ body-up owner authority named ownkey x u h fits =
     let body : x.rec.body ≡ Certificate h.cert = ap (λ (y : CheckedRecord). y.rec.body) h.line in
     let few : h.cert.member < length named = omega (arith, h.member_high, fits.room) in
     record {
+      heal = fits.heal;
       own = fits.own;
       millis = fits.millis;
       certificates = fits.certificates ++ x ∷ [];
@@ -392,6 +401,7 @@ ended-up owner authority named (Some k) u owned fits =
     let same : k ≡ public = same-key k public fits.found.long o.new.long (owned ∙ ap key_bytes o.key) in
     record {
       group = owner.group;
+      heal = fits.heal;
       own = fits.own;
       authority = authority;
       millis = fits.millis;
@@ -411,14 +421,17 @@ ended-up owner authority named (Some k) u owned fits =
 step : (form : KitText) (ws : List (List ℕ)) (l : KitLine) (u : SetUp) → IsKit form ws l → Fits form u → Fits (after form l) (sets u l)
 step kit.Start ws lines.Header u is fits = fits
 step kit.Headed ws (lines.Group g) u is fits = record { is = ap (λ (v : SetUp). sets v (lines.Group g)) fits; numbers = group-is g (all-in_range group_shape is.args (group_values g) is.spells) }
-step (kit.Grouped g) ws (lines.Kinds kinds) u is fits = record { group = fits; kinds_fit = kit-kinds (kit.Grouped g) ws kinds is }
-step (kit.Kinded g kinds) ws (lines.Own m secret own_key) u is fits =
+step (kit.Grouped g) ws (lines.Kinds kinds) u is fits = record { heal = None; is = fits.is; numbers = fits.numbers; kinds_fit = kit-kinds (kit.Grouped g) ws kinds is }
+step (kit.Kinded g kinds has) ws (lines.Heal heal) u is fits =
+    record { heal = Some heal; is = ap (λ (v : SetUp). sets v (lines.Heal heal)) fits.is; numbers = fits.numbers; kinds_fit = fits.kinds_fit }
+step (kit.Kinded g kinds has) ws (lines.Own m secret own_key) u is fits =
     let line : lines.Own m secret (new_key (key_from kinds secret)) ≡ lines.Own m secret own_key = is.made in
     let made : new_key (key_from kinds secret) ≡ own_key = cc in
     own-up g kinds m secret own_key u made fits
 step (kit.Owned owner) ws (lines.Authority authority) u is fits =
-    record { own = fits.own; is = ap (λ (v : SetUp). sets v (lines.Authority authority)) fits.is; owner_is = fits.owner_is }
+    record { heal = fits.heal; own = fits.own; is = ap (λ (v : SetUp). sets v (lines.Authority authority)) fits.is; owner_is = fits.owner_is }
 step (kit.Authorized owner authority) ws (lines.Tick millis) u is fits = record {
+  heal = fits.heal;
   own = fits.own;
   millis = millis;
   certificates = [];
@@ -477,11 +490,11 @@ sets-up ls seen e = walk ls seen (unread kit.Start) nothing_up e refl
 pub up-whole : (u : SetUp) → IsUp u → IsWholeSetUp u
 up-whole u h = record { group = h.group; own = h.own; authority = h.authority; millis = h.millis; is = rw h.is refl }
 
-abbrev up_as : Group → Own → PublicKey → ℕ → List CheckedRecord → SetUp
-up_as group own authority millis certificates = record { group = Some group; own = Some own; authority = Some authority; millis = Some millis; certificates = certificates }
+abbrev up_as : Group → Option Heal → Own → PublicKey → ℕ → List CheckedRecord → SetUp
+up_as group heal own authority millis certificates = record { group = Some group; heal = heal; own = Some own; authority = Some authority; millis = Some millis; certificates = certificates }
 
-sound-parts : (g g1 : Group) (o o1 : Own) (a a1 : PublicKey) (n n1 : ℕ) (cs cs1 : List CheckedRecord) → up_as g o a n cs ≡ up_as g1 o1 a1 n1 cs1 → IsSound g o a n cs → IsSound g1 o1 a1 n1 cs1
-sound-parts g g1 o o1 a a1 n n1 cs cs1 e h =
+sound-parts : (g g1 : Group) (h h1 : Option Heal) (o o1 : Own) (a a1 : PublicKey) (n n1 : ℕ) (cs cs1 : List CheckedRecord) → up_as g h o a n cs ≡ up_as g1 h1 o1 a1 n1 cs1 → IsSound g o a n cs → IsSound g1 o1 a1 n1 cs1
+sound-parts g g1 h h1 o o1 a a1 n n1 cs cs1 e sound =
     let eg : Some g ≡ Some g1 = ap (λ (u : SetUp). u.group) e in
     let eo : Some o ≡ Some o1 = ap (λ (u : SetUp). u.own) e in
     let ea : Some a ≡ Some a1 = ap (λ (u : SetUp). u.authority) e in
@@ -491,11 +504,11 @@ sound-parts g g1 o o1 a a1 n n1 cs cs1 e h =
     let so : o ≡ o1 = cc in
     let sa : a ≡ a1 = cc in
     let sn : n ≡ n1 = cc in
-    subst (λ x. IsSound g1 o1 a1 n1 x) ec (subst (λ x. IsSound g1 o1 a1 x cs) sn (subst (λ x. IsSound g1 o1 x n cs) sa (subst (λ x. IsSound g1 x a n cs) so (subst (λ x. IsSound x o a n cs) sg h))))
+    subst (λ x. IsSound g1 o1 a1 n1 x) ec (subst (λ x. IsSound g1 o1 a1 x cs) sn (subst (λ x. IsSound g1 o1 x n cs) sa (subst (λ x. IsSound g1 x a n cs) so (subst (λ x. IsSound x o a n cs) sg sound))))
 
 pub up-sound : (u : SetUp) (m : Member) → IsUp u → SetsUp u m → AllByRecursion IsChecked u.certificates → IsSoundMember m
 up-sound u m h is checked =
-    sound-parts h.group m.group h.own m.own h.authority m.authority h.millis m.millis h.certificates m.certificates.items (sym h.is ∙ is)
+    sound-parts h.group m.group h.heal m.heal h.own m.own h.authority m.authority h.millis m.millis h.certificates m.certificates.items (sym h.is ∙ is)
     (record {
       numbers = h.numbers;
       pace = h.pace;

@@ -187,11 +187,11 @@ begun-as m st mid signer is begins = λ tag before spent moments settled ends. s
 
 pub started-from : (m : Member) (st : StoreState) (kept : Kept) (told es : List journal.Event) (old mid new : OfDisk) (signer : SignerState) (seed : List ℕ) → Opened m st old mid → signer ≡ signer_of m st → seed ≡ nonce_seed m.own.secret st.state.next → es ≡ []
     → BegunBy signer st → new.faults ≡ mid.faults
-    → ((s : Setting) → s ≡ setting_of m.group m.own.member m.authority signer.key → Starts s seed (recs_of m.certificates.items) signer.state kept es told)
-    → ((s : Setting) → s ≡ setting_of m.group m.own.member m.authority signer.key → IsVouchable s (public_key signer.key) (recs_of m.certificates.items) signer.state)
+    → ((s : Setting) → s ≡ setting_of m.group m.heal m.own.member m.authority signer.key → Starts s seed (recs_of m.certificates.items) signer.state kept es told)
+    → ((s : Setting) → s ≡ setting_of m.group m.heal m.own.member m.authority signer.key → IsVouchable s (public_key signer.key) (recs_of m.certificates.items) signer.state)
     → kept.ended ≡ false → kept.signer.closed ≡ false → SpendsIn {T = Kept} (Ok kept) signer kept.signer mid.moments new.moments es told → Begins m old new told (Ok kept)
 started-from m st kept told es old mid new signer seed h is seed_is none begins faults starts vouchable going unclosed spends =
-    let same : setting_for m ≡ setting_of m.group m.own.member m.authority signer.key = ap (setting_of m.group m.own.member m.authority) (sym (ap (λ (x : SignerState). x.key) is)) in
+    let same : setting_for m ≡ setting_of m.group m.heal m.own.member m.authority signer.key = ap (λ (x : SignerState). setting_of m.group m.heal m.own.member m.authority x.key) (sym is) in
     let recs = recs_of m.certificates.items in
     let s1 = subst (λ x. Starts (setting_for m) seed recs x kept es told) (ap (λ (x : SignerState). x.state) is) (starts (setting_for m) same) in
     let s2 = subst (λ x. Starts (setting_for m) x recs st.state kept es told) seed_is s1 in

@@ -28,7 +28,7 @@ use Rattle.validate.specs.Table.{signature_fault}
 use Rattle.node_rules.specs.Nodes.{Setting, Node, event_of, public_key_of, state_of}
 use Rattle.node_rules.specs.Refusals.{refusal, refusal_of}
 use Rattle.node_rules.specs.Calls.{lives}
-use Rattle.node_rules.specs.Deliveries.{answering_note, delivered}
+use Rattle.node_rules.specs.Deliveries.{delivered}
 use Rattle.node_rules.specs.Ticking.{passed, ticked}
 use Rattle.node_rules.specs.Leaving.{leaving_note, left}
 use Rattle.node_rules.specs.Lives.{Input, Delivers, Ticks, Leaves, call_of}
@@ -108,13 +108,13 @@ accepted-at : (s : Setting) (r : Record) (f : Option Fault) (place : ℕ) (a : A
 accepted-at s r None place a e = let one = one-at (event_of s r.body) (Accuses a) place e in record { none = refl; first = one.0; says = accuses-body s r.body a one.1 }
 accepted-at s r (Some fault) place a e = none-at place (Accuses a) e
 
-answer-at : {A : Type 0} (s : Setting) (n : Node) (o : Option AccBody) (place : ℕ) (a : AccBody) → slice_get (answer_event s n o) place ≡ Some (Accuses a) → A
+answer-at : {A : Type 0} (s : Setting) (n : Node) (o : Option NoteBody) (place : ℕ) (a : AccBody) → slice_get (answer_event s n o) place ≡ Some (Accuses a) → A
 answer-at s n None place a e = none-at place (Accuses a) e
 answer-at {A = A} s n (Some x) place a e = by (eqb n.stored.next s.indexes) e
   where
-    by : (b : Bool) → slice_get (cond b [] (Notes (answering_note s n.stored x) ∷ [])) place ≡ Some (Accuses a) → A
+    by : (b : Bool) → slice_get (cond b [] (Notes x ∷ [])) place ≡ Some (Accuses a) → A
     by true e = none-at place (Accuses a) e
-    by false e = note-not (answering_note s n.stored x) a (one-at (Notes (answering_note s n.stored x)) (Accuses a) place e).1
+    by false e = note-not x a (one-at (Notes x) (Accuses a) place e).1
 
 is-gained : (s : Setting) (records : List Record) (n : Node) (place : ℕ) (a : AccBody) → slice_get (gained s n records) place ≡ Some (Accuses a) → IsGained s n records place a
 is-gained s [] n place a e = none-at place (Accuses a) e

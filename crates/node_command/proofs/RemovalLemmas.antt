@@ -1,8 +1,8 @@
 -- What a call reports of removals, and what those rest on.
 use Rattle.std.proofs.Common.{◌≡◌, ◌⊎◌, ℕ, ◌+◌, ◌<◌, zero, suc, Bool, true, false, cond, eqb, List, [], ◌∷◌, ◌++◌, length, Option, Some, None, inl, inr, refl, ap, sym, ◌∙◌, subst, append_assoc, append-nil, arith, map, fold}
-use Rattle.std.specs.Prelude.{Result, Ok, Err, filter}
+use Rattle.std.specs.Prelude.{◌&&◌, Result, Ok, Err, filter}
 use Rattle.std.specs.List.{range_with_len, slice_get}
-use Rattle.std.proofs.lemmas.Bool.{cond_both, eqb-true, false≢true}
+use Rattle.std.proofs.lemmas.Bool.{and_parts, cond_both, eqb-true, false≢true}
 use Rattle.std.proofs.lemmas.List.{append_cancel_left, length-append, take_at}
 use Rattle.ff_ids.specs.declared.AccBody.{AccBody}
 use Rattle.ff_ids.specs.declared.Fault.{Fault}
@@ -34,14 +34,15 @@ use Rattle.trace.proofs.UprightLemmas.{Left, left-by}
 use Rattle.node_rules.specs.Nodes.{Setting, Node, event_of, neighbours, neighbours_and, state_of}
 use Rattle.node_rules.specs.Refusals.{refusal}
 use Rattle.node_rules.specs.Calls.{Call, begun, is_used_up, lives, own_record, signs, spends, takes, tells, told_of, wants, whats_of}
-use Rattle.node_rules.specs.Deliveries.{answer_to, answering_note, answers, delivered, handles, handles_all, hears, judged}
+use Rattle.node_rules.specs.Deliveries.{answering_note, asked_of, asked_with, delivered, gives_note, handles, handles_all, hears, is_told, judged, may_rise, returning_note, settles}
 use Rattle.node_rules.specs.Leaving.{leaving, leaving_note, leaves, left}
 use Rattle.node_rules.specs.Replies.{first_mask}
-use Rattle.node_rules.specs.Ticking.{accusation_on, accuses, accuses_all, has_accused, passed, probed_at, ring_for, ticked, wants_accusation}
+use Rattle.node_rules.specs.Ticking.{accusation_on, accuses, accuses_all, has_accused, passed, probed_at, ring_for, spread_at, ticked, wants_accusation}
 use Rattle.node_rules.specs.Starting.{blank, first_note, opened, started}
 use Rattle.node_rules.specs.OnDisks.{IsCut}
 use Rattle.node_rules.proofs.Called.{delivered_until, holds-called, left_until, ticked_until}
-use Rattle.node_rules.proofs.Small.{stored-takes}
+use Rattle.node_rules.proofs.Carrying.{AsksBack}
+use Rattle.node_rules.proofs.Small.{node-spreads}
 use Rattle.node_rules.specs.Lives.{AreCertificates, Input, Delivers, Ticks, Leaves, TellsItsLife, call_of, is_of_life, told_by}
 use Rattle.node_rules.specs.Gaining.{accusation_events}
 use Rattle.node_rules.specs.Outgoing.{accusation_of, at_tick, to_accuse}
@@ -245,33 +246,40 @@ grown-wants Q works s base body addressees c new h =
     (cond_both {A = Node} (is_used_up s c.node) c.node (cond works signed c.node) (IsGrown Q base) (λ up. h)
     (λ left. cond_both {A = Node} works signed c.node (IsGrown Q base) (λ yes. grown-more Q base c.node signed (event_of s body) (lived-signs s body c) (new yes left) h) (λ no. h)))
 
--- What a record adds to the life, with its answer, is so.
+-- What a record adds to the life, with the note that it asks, is so.
 pub record Suits (Q : List Event → Event → Type 0) (s : Setting) (n : Node) (r : Record) : Type 0 where
   pub taken : refusal s n r ≡ None → Q n.lived (event_of s r.body)
   pub answered : (a : AccBody) → refusal s n r ≡ None → r.body ≡ Accusation a → eqb a.accused s.me ≡ true → Q (n.lived ++ event_of s r.body ∷ []) (Notes (answering_note s n.stored a))
+  pub returned : (a : AccBody) → AsksBack s n r a → Q n.lived (Notes (returning_note s n.stored))
 
-grown-answers : (Q : List Event → Event → Type 0) (works : Bool) (s : Setting) (base : List Event) (b : Body) (c : Call) → ((a : AccBody) → b ≡ Accusation a → eqb a.accused s.me ≡ true → Q c.node.lived (Notes (answering_note s c.node.stored a)))
-    → IsGrown Q base c.node → IsGrown Q base (answers works s b c).node
-grown-answers Q works s base (Certificate x) c new h = h
-grown-answers Q works s base (Note x) c new h = h
-grown-answers Q works s base (Accusation a) c new h =
-    cond_both {A = Call} (eqb a.accused s.me) (wants works s (answer_to s c.node.stored a) (neighbours s) c) c (λ x. IsGrown Q base x.node)
-    (λ me. grown-wants Q works s base (answer_to s c.node.stored a) (neighbours s) c (λ yes left. new a refl me) h) (λ other. h)
+grown-settles : (Q : List Event → Event → Type 0) (s : Setting) (base : List Event) (f : Option Fault) (r : Record) (c : Call) → refusal s c.node r ≡ f → Suits Q s c.node r → IsGrown Q base c.node → IsGrown Q base (settles s f r c).node
+grown-settles Q s base (Some fault) r c is fits h = h
+grown-settles Q s base None r c fine fits h = grown-takes Q s base r (tells s (told.Took r.body None) c) (fits.taken fine) h
 
-grown-judged : (Q : List Event → Event → Type 0) (works : Bool) (s : Setting) (base : List Event) (f : Option Fault) (r : Record) (c : Call) → refusal s c.node r ≡ f → Suits Q s c.node r → IsGrown Q base c.node → IsGrown Q base (judged works s f r c).node
-grown-judged Q works s base (Some fault) r c is fits h = h
-grown-judged Q works s base None r c fine fits h =
+grown-asked_of : (Q : List Event → Event → Type 0) (works : Bool) (s : Setting) (base : List Event) (f : Option Fault) (a : AccBody) (r : Record) (c : Call)
+    → refusal s c.node r ≡ f → r.body ≡ Accusation a → eqb a.accused s.me ≡ true → Suits Q s c.node r → IsGrown Q base c.node → IsGrown Q base (gives_note works s (asked_of s c.node f a r) (settles s f r c)).node
+grown-asked_of Q works s base None a r c fine is me fits h =
+    let note : NoteBody = answering_note s c.node.stored a in
     let c0 : Call = tells s (told.Took r.body None) c in
-    let c1 : Call = takes s r c0 in
-    grown-answers Q works s base r.body c1
-    (λ a is me.
-    subst (λ (xs : List Event). Q xs (Notes (answering_note s c1.node.stored a))) (sym (lived-takes s r c0))
-    (subst (λ (k : Stored). Q (c.node.lived ++ event_of s r.body ∷ []) (Notes (answering_note s k a))) (sym (stored-takes s r c0)) (fits.answered a fine is me)))
-    (grown-takes Q s base r c0 (fits.taken fine) h)
+    grown-wants Q works s base (Note note) (neighbours s) (takes s r c0)
+    (λ yes left. subst (λ (xs : List Event). Q xs (Notes note)) (sym (lived-takes s r c0)) (fits.answered a fine is me)) (grown-takes Q s base r c0 (fits.taken fine) h)
+grown-asked_of Q works s base (Some fault) a r c refused is me fits h =
+    let note : NoteBody = returning_note s c.node.stored in
+    let c1 : Call = tells s (told.Took r.body (Some fault)) c in
+    cond_both {A = Option NoteBody} (is_told s c.node fault a r) (Some note) None (λ o. IsGrown Q base (gives_note works s o c1).node)
+    (λ heard. grown-wants Q works s base (Note note) (neighbours s) c1 (λ yes left. fits.returned a (record { fault = fault; refused = refused; is = is; me = me; told = heard })) h) (λ other. h)
+
+grown-asked : (Q : List Event → Event → Type 0) (works : Bool) (s : Setting) (base : List Event) (f : Option Fault) (b : Body) (r : Record) (c : Call)
+    → refusal s c.node r ≡ f → r.body ≡ b → Suits Q s c.node r → IsGrown Q base c.node → IsGrown Q base (gives_note works s (asked_with s c.node f b r) (settles s f r c)).node
+grown-asked Q works s base f (Certificate x) r c is says fits h = grown-settles Q s base f r c is fits h
+grown-asked Q works s base f (Note x) r c is says fits h = grown-settles Q s base f r c is fits h
+grown-asked Q works s base f (Accusation a) r c is says fits h =
+    cond_both {A = Option NoteBody} (eqb a.accused s.me && may_rise s.heal c.node) (asked_of s c.node f a r) None (λ o. IsGrown Q base (gives_note works s o (settles s f r c)).node)
+    (λ yes. grown-asked_of Q works s base f a r c is says (and_parts _ _ yes).0 fits h) (λ other. grown-settles Q s base f r c is fits h)
 
 pub grown-handles : (Q : List Event → Event → Type 0) (works : Bool) (s : Setting) (base : List Event) (c : Call) (r : Record) → Suits Q s c.node r → IsGrown Q base c.node → IsGrown Q base (handles works s c r).node
 unfolding handles
-grown-handles Q works s base c r fits h = grown-judged Q works s base (refusal s c.node r) r c refl fits h
+grown-handles Q works s base c r fits h = grown-asked Q works s base (refusal s c.node r) r.body r c refl refl fits h
 
 grown-all : (Q : List Event → Event → Type 0) (s : Setting) (base : List Event) (records : List Record) (c : Call) → ((n : Node) (r : Record) → Suits Q s n r) → IsGrown Q base c.node → IsGrown Q base (handles_all s records c).node
 grown-all Q s base [] c fits h = h
@@ -304,14 +312,18 @@ abbrev IsAny : List Event → Event → Type 0
 IsAny life x = Unit {0}
 
 any-suits : (s : Setting) (n : Node) (r : Record) → Suits IsAny s n r
-any-suits s n r = record { taken = λ fine. tt; answered = λ a fine is me. tt }
+any-suits s n r = record { taken = λ fine. tt; answered = λ a fine is me. tt; returned = λ a asks. tt }
+
+grown-gives : (works : Bool) (s : Setting) (base : List Event) (note : Option NoteBody) (c : Call) → IsGrown IsAny base c.node → IsGrown IsAny base (gives_note works s note c).node
+grown-gives works s base None c h = h
+grown-gives works s base (Some note) c h = grown-wants IsAny works s base (Note note) (neighbours s) c (λ yes left. tt) h
 
 grown-accepted : (s : Setting) (c : Call) (r : Record) (f : Option Fault) → f ≡ None → IsGrown IsAny (c.node.lived ++ event_of s r.body ∷ []) (judged true s f r c).node
 grown-accepted s c r (Some fault) none = absurd cc
 grown-accepted s c r None none =
     let c0 : Call = tells s (told.Took r.body None) c in
     let base : List Event = c.node.lived ++ event_of s r.body ∷ [] in
-    grown-answers IsAny true s base r.body (takes s r c0) (λ a is me. tt) (grown-same IsAny base (takes s r c0).node (lived-takes s r c0))
+    grown-gives true s base (asked_with s c.node None r.body r) (takes s r c0) (grown-same IsAny base (takes s r c0).node (lived-takes s r c0))
 
 all-append : (s : Setting) (xs ys : List Record) (c : Call) → handles_all s (xs ++ ys) c ≡ handles_all s ys (handles_all s xs c)
 all-append s [] ys c = refl
@@ -366,11 +378,15 @@ lived-probed : (s : Setting) (n : Node) → (probed_at s n).node.lived ≡ n.liv
 unfolding probed_at passed lives
 lived-probed s n = refl
 
+lived-spread : (s : Setting) (n : Node) → (spread_at s n).node.lived ≡ n.lived ++ Passes ∷ []
+unfolding spread_at
+lived-spread s n = ap (λ (x : Node). x.lived) (node-spreads s (probed_at s n)) ∙ lived-probed s n
+
 grown-ticked_until : (Q : List Event → Event → Type 0) (s : Setting) (n : Node) (silent : List ℕ) (m : ℕ) → ((life : List Event) (a : AccBody) → Q life (Accuses a)) → IsGrown Q (n.lived ++ Passes ∷ []) (ticked_until s n silent m).node
 unfolding ticked_until
 grown-ticked_until Q s n silent m all =
     let base = n.lived ++ Passes ∷ [] in
-    grown-accuses Q false s base (accuses_all s silent (probed_at s n)) m all (grown-accused Q s base silent (probed_at s n) all (grown-same Q base (probed_at s n).node (lived-probed s n)))
+    grown-accuses Q false s base (accuses_all s silent (spread_at s n)) m all (grown-accused Q s base silent (spread_at s n) all (grown-same Q base (spread_at s n).node (lived-spread s n)))
 
 -- ## What a node adds that leaves
 
@@ -464,7 +480,7 @@ event-not s (Note n) e = cc
 event-not s (Accusation a) e = cc
 
 no-tick : (s : Setting) (n : Node) (r : Record) → Suits IsNoTick s n r
-no-tick s n r = record { taken = λ fine e. event-not s r.body e; answered = λ a fine is me e. event-not s (Note (answering_note s n.stored a)) e }
+no-tick s n r = record { taken = λ fine e. event-not s r.body e; answered = λ a fine is me e. event-not s (Note (answering_note s n.stored a)) e; returned = λ a asks e. event-not s (Note (returning_note s n.stored)) e }
 
 accuses-not : (a : AccBody) → IsPassing (Accuses a) → ⊥
 accuses-not a e = cc
@@ -549,6 +565,15 @@ good-some t mask good zero_is =
 pub good-stays : (t : ℕ) (n : NoteBody) → good_mask t n.mask.0 ≡ true → IsStaying (Notes n)
 good-stays t n good m (inl tick) = absurd cc
 good-stays t n good m (inr note) = good-some t n.mask.0 good (ap is_leaving (same-note n note.note note.is) ∙ note.leaving)
+
+-- The note by which the node comes back keeps the ring of the accusation.
+pub back-stays : (s : Setting) (n : Node) (r : Record) (a : AccBody) → AsksBack s n r a → IsStaying (Notes (returning_note s n.stored))
+back-stays s n r a asks m (inl tick) = absurd cc
+back-stays s n r a asks m (inr note) =
+    let zero_is : n.stored.mask.0 ≡ 0 = eqb-true n.stored.mask.0 0 (ap is_leaving (same-note (returning_note s n.stored) note.note note.is) ∙ note.leaving) in
+    let on : enables n.stored.mask.0 a.ring.0 ≡ true = (and_parts _ _ (and_parts _ _ asks.told).0).1 in
+    let off : enables 0 a.ring.0 ≡ false = none_above 0 0 a.ring.0 (omega arith) (omega arith) in
+    false≢true (sym off ∙ ap (λ mask. enables mask a.ring.0) (sym zero_is) ∙ on)
 
 first-good : (t stored : ℕ) → good_mask t (first_mask t stored) ≡ true
 first-good t stored =

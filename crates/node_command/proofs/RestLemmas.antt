@@ -22,6 +22,7 @@ use Rattle.sign_keys.specs.Keys.{public_key}
 use Rattle.node_core.specs.Begins.{IsVouchable}
 use Rattle.node_core.specs.Rolls.{recs_of}
 use Rattle.journal.specs.declared.event.What.TheVariants as happened
+use Rattle.node_loop.specs.Turns.{pace_for}
 use Rattle.node_rules.specs.Lives.{AreCertificates}
 use Rattle.node_rules.proofs.OwnKey.{key-started}
 use Rattle.node_rules.proofs.OwnNote.{own-started}
@@ -80,7 +81,7 @@ run-written m feed was now done h =
     let told = (start_of m h.stored).told in
     let text = (life_in m h.stored feed).text in
     let first = lines-told s start acts told (tells-start m h.stored feed h.vouchable.kit.all) in
-    let all = lines-all s (public_key (key_of m)) start acts (founded m h.stored feed h.vouchable) refl (life-of m.millis feed.stay.turns feed.stay.leave feed.link.coming feed.reading feed.readings) in
+    let all = lines-all s (public_key (key_of m)) start acts (founded m h.stored feed h.vouchable) refl (life-of (pace_for (setting_for m) m.millis) feed.stay.turns feed.stay.leave feed.link.coming feed.reading feed.readings) in
     writes-all s start acts was.taken now.taken (lines_of told ++ text ++ end_line) (Ok done) h.written
     (lines-behind (Gives s start acts) (lines_of told ++ text) end_line (lines-behind (Gives s start acts) (lines_of told) text first all) (end-lines s start acts)) (λ x. x)
 
@@ -88,7 +89,7 @@ out-written : (m : Member) (feed : NetInputs) (was now : Environment) (result : 
 out-written m feed was now result l =
     let stored = l.0 in
     lives-written (setting_for m) (public_key (key_of m)) l.1 (first_of m stored feed) (acts_of m feed) (start_of m stored).told (record was { disk = l.2 }) now result
-    (founded m stored feed l.3.vouchable) refl (life-of m.millis feed.stay.turns feed.stay.leave feed.link.coming feed.reading feed.readings) (tells-start m stored feed l.3.vouchable.kit.all) l.4
+    (founded m stored feed l.3.vouchable) refl (life-of (pace_for (setting_for m) m.millis) feed.stay.turns feed.stay.leave feed.link.coming feed.reading feed.readings) (tells-start m stored feed l.3.vouchable.kit.all) l.4
 
 -- ## The lines of a run
 

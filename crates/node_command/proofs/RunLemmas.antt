@@ -33,7 +33,7 @@ use Rattle.node_rules.specs.Calls.{Call, begun, lives, signs, takes, whats_of}
 use Rattle.node_rules.specs.Starting.{blank, opened, started}
 use Rattle.node_core.specs.Playing.{Kept}
 use Rattle.node_core.specs.Spending.{spent_told}
-use Rattle.node_loop.specs.Turns.{life_acts}
+use Rattle.node_loop.specs.Turns.{life_acts, pace_for}
 use Rattle.node_loop.specs.Courses.{datagram_in, served_from}
 use Rattle.node_command.specs.declared.halt.NodeHalt.{NodeHalt}
 use Rattle.node_command.specs.declared.halt.NodeHalt.TheVariants as halt
@@ -146,21 +146,21 @@ has-run m feed stored node events was now mid b l =
     }
 
 lived-out : (m : Member) (feed : NetInputs) (stored : Stored) (node : Kept) (events : List journal.Event) (was now : Environment) (mid : OfDisk) (result : Result (Unit {0}) NodeHalt) → IsBegun m stored node events was.disk mid
-    → Lives (setting_for m) node events (life_acts m.millis feed.stay.turns feed.stay.leave feed.link.coming feed.reading feed.readings) (served_from (start_of m stored).node (bound_for m feed.link)) (record was { disk = mid }) now result
+    → Lives (setting_for m) node events (life_acts (pace_for (setting_for m) m.millis) feed.stay.turns feed.stay.leave feed.link.coming feed.reading feed.readings) (served_from (start_of m stored).node (bound_for m feed.link)) (record was { disk = mid }) now result
     → RunsOnce m feed was now result
 lived-out m feed stored node events was now mid result b l = by result l
   where
-    out : (result : Result (Unit {0}) NodeHalt) → Lives (setting_for m) node events (life_acts m.millis feed.stay.turns feed.stay.leave feed.link.coming feed.reading feed.readings) (served_from (start_of m stored).node (bound_for m feed.link)) (record was { disk = mid }) now result
+    out : (result : Result (Unit {0}) NodeHalt) → Lives (setting_for m) node events (life_acts (pace_for (setting_for m) m.millis) feed.stay.turns feed.stay.leave feed.link.coming feed.reading feed.readings) (served_from (start_of m stored).node (bound_for m feed.link)) (record was { disk = mid }) now result
         → LivesOut m feed was now result
     out result l = (
       stored,
       node,
       mid,
       subst (λ es. IsBegun m stored node es was.disk mid) b.told_is b,
-      subst (λ es. Lives (setting_for m) node es (life_acts m.millis feed.stay.turns feed.stay.leave feed.link.coming feed.reading feed.readings) (served_from (start_of m stored).node (bound_for m feed.link)) (record was { disk = mid }) now result) b.told_is l,
+      subst (λ es. Lives (setting_for m) node es (life_acts (pace_for (setting_for m) m.millis) feed.stay.turns feed.stay.leave feed.link.coming feed.reading feed.readings) (served_from (start_of m stored).node (bound_for m feed.link)) (record was { disk = mid }) now result) b.told_is l,
     )
 
-    by : (result : Result (Unit {0}) NodeHalt) → Lives (setting_for m) node events (life_acts m.millis feed.stay.turns feed.stay.leave feed.link.coming feed.reading feed.readings) (served_from (start_of m stored).node (bound_for m feed.link)) (record was { disk = mid }) now result
+    by : (result : Result (Unit {0}) NodeHalt) → Lives (setting_for m) node events (life_acts (pace_for (setting_for m) m.millis) feed.stay.turns feed.stay.leave feed.link.coming feed.reading feed.readings) (served_from (start_of m stored).node (bound_for m feed.link)) (record was { disk = mid }) now result
         → RunsOnce m feed was now result
     by (Ok x) l = has-run m feed stored node events was now mid b l
     by (Err (halt.Refused line w)) l = absurd l
@@ -206,12 +206,12 @@ pub begins-bound : (m : Member) (old new : OfDisk) (events : List journal.Event)
 begins-bound m old new events h b e = absurd (subst (λ x. Begins m old new events (Err x)) e b)
 
 pub lived-run : (m : Member) (feed : NetInputs) (stored : Stored) (node : Kept) (events : List journal.Event) (was now : Environment) (mid : OfDisk) (result : Result (Unit {0}) NodeHalt) (reading : ℕ) (stay : Stay) → reading ≡ feed.reading → stay ≡ feed.stay → IsBegun m stored node events was.disk mid
-    → Lives (setting_for m) node events (life_acts m.millis stay.turns stay.leave feed.link.coming reading feed.readings) (served_from (start_of m stored).node (bound_for m feed.link)) (record was { disk = mid }) now result
+    → Lives (setting_for m) node events (life_acts (pace_for (setting_for m) m.millis) stay.turns stay.leave feed.link.coming reading feed.readings) (served_from (start_of m stored).node (bound_for m feed.link)) (record was { disk = mid }) now result
     → RunsOnce m feed was now result
 lived-run m feed stored node events was now mid result reading stay reading_is stay_is b l =
     let start = served_from (start_of m stored).node (bound_for m feed.link) in
-    let l1 = subst (λ k. Lives (setting_for m) node events (life_acts m.millis stay.turns stay.leave feed.link.coming k feed.readings) start (record was { disk = mid }) now result) reading_is l in
-    let l2 = subst (λ (x : Stay). Lives (setting_for m) node events (life_acts m.millis x.turns x.leave feed.link.coming feed.reading feed.readings) start (record was { disk = mid }) now result) stay_is l1 in
+    let l1 = subst (λ k. Lives (setting_for m) node events (life_acts (pace_for (setting_for m) m.millis) stay.turns stay.leave feed.link.coming k feed.readings) start (record was { disk = mid }) now result) reading_is l in
+    let l2 = subst (λ (x : Stay). Lives (setting_for m) node events (life_acts (pace_for (setting_for m) m.millis) x.turns x.leave feed.link.coming feed.reading feed.readings) start (record was { disk = mid }) now result) stay_is l1 in
     lived-out m feed stored node events was now mid result b l2
 
 pub calm-behind : (result : Result (Unit {0}) NodeHalt) (old mid new : ℕ) → OnOk result (new ≡ mid) → mid ≡ old → OnOk result (new ≡ old)

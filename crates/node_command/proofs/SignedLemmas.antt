@@ -24,7 +24,6 @@ use Rattle.journal.specs.declared.event.What as whats
 use Rattle.journal.specs.declared.event.What.TheVariants as told
 use Rattle.node_rules.specs.Nodes.{Setting, Node, state_of}
 use Rattle.node_rules.specs.Calls.{Call, is_used_up}
-use Rattle.node_rules.specs.Deliveries.{answer_to}
 use Rattle.node_rules.specs.Accusing.{AccusesTheSilent}
 use Rattle.node_rules.specs.Ticking.{has_accused, silent_at, ticked}
 use Rattle.node_rules.specs.OnDisks.{IsCut, called}
@@ -93,12 +92,12 @@ in-accusing s st next (m ∷ ms) index a (inr i) = by (in-accusing s st next ms 
     by up left false (inl e) = of-newest s st m a (spent-body next index (accusation_of s st m) a e)
     by up left false (inr j) = left j
 
-none-answered : (s : Setting) (n : Node) (o : Option AccBody) (index : ℕ) (a : AccBody) → In (answered_with s n o) (signed index a) → ⊥
+none-answered : (s : Setting) (n : Node) (o : Option NoteBody) (index : ℕ) (a : AccBody) → In (answered_with s n o) (signed index a) → ⊥
 none-answered s n None index a i = i
 none-answered s n (Some x) index a (inr none) = none
 none-answered s n (Some x) index a (inl e) = by (is_used_up s n) e
   where
-    by : (b : Bool) → cond b (told.Exhausted n.stored.next) (told.Spent n.stored.next (answer_to s n.stored x)) ≡ signed index a → ⊥
+    by : (b : Bool) → cond b (told.Exhausted n.stored.next) (told.Spent n.stored.next (Note x)) ≡ signed index a → ⊥
     by true e = used-not n.stored.next index a e
     by false e = note-not n.stored.next _ index a e
 

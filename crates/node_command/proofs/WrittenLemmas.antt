@@ -25,6 +25,7 @@ use Rattle.node_rules.specs.OnDisks.{IsCut}
 use Rattle.node_rules.specs.Lives.{Input, Delivers, Ticks, Leaves, call_of}
 use Rattle.node_loop.specs.declared.fault.ServeFault.{ServeFault}
 use Rattle.node_loop.specs.declared.fault.ServeFault.TheVariants as serve
+use Rattle.node_loop.specs.declared.turns.Pace.{Pace}
 use Rattle.node_loop.specs.Turns.{Act, Receives, Writes, Calls, Outlook, after_turn, delivery_of, leaving_acts, life_acts, ticks_of, turn_acts, turn_in, turns_from}
 use Rattle.node_loop.specs.Courses.{ServeState, acted, datagram_in, fails_next, gives, hands_over, line_of, may_tick, moves, sends_one, served, tells, tells_all, tells_what, with_feed, writes_event}
 use Rattle.node_loop.specs.Serving.{BreaksOff, IsStarved, IsStopped, IsWhole, starves}
@@ -259,18 +260,18 @@ delivery-of heard.Failed = tt
 turn-of : (t : Turn) → AllByRecursion IsOfTurn (turn_acts t)
 turn-of t = (tt, ((t, refl), all-behind IsOfTurn (delivery_of t.heard) (ticks_of t.ticks) (delivery-of t.heard) (ticks-of t.ticks)))
 
-turns-of : (millis base left number : ℕ) (o : Outlook) → AllByRecursion IsOfTurn (turns_from millis base left number o)
-turns-of millis base zero number o = tt
-turns-of millis base (suc left) number o =
-    all-behind IsOfTurn (turn_acts (turn_in millis base number o)) _ (turn-of (turn_in millis base number o)) (turns-of millis base left (number + 1) (after_turn millis base o))
+turns-of : (pace : Pace) (base left number : ℕ) (o : Outlook) → AllByRecursion IsOfTurn (turns_from pace base left number o)
+turns-of pace base zero number o = tt
+turns-of pace base (suc left) number o =
+    all-behind IsOfTurn (turn_acts (turn_in pace base number o)) _ (turn-of (turn_in pace base number o)) (turns-of pace base left (number + 1) (after_turn pace base o))
 
 leaving-of : (leave : Bool) → AllByRecursion IsOfTurn (leaving_acts leave)
 leaving-of true = (tt, tt)
 leaving-of false = tt
 
-pub life-of : (millis turns : ℕ) (leave : Bool) (coming : List LinkAnswer) (reading : ℕ) (readings : List ℕ) → AllByRecursion IsOfTurn (life_acts millis turns leave coming reading readings)
+pub life-of : (pace : Pace) (turns : ℕ) (leave : Bool) (coming : List LinkAnswer) (reading : ℕ) (readings : List ℕ) → AllByRecursion IsOfTurn (life_acts pace turns leave coming reading readings)
 unfolding life_acts
-life-of millis turns leave coming reading readings = all-behind IsOfTurn (turns_from millis _ turns 1 _) (leaving_acts leave) (turns-of millis _ turns 1 _) (leaving-of leave)
+life-of pace turns leave coming reading readings = all-behind IsOfTurn (turns_from pace _ turns 1 _) (leaving_acts leave) (turns-of pace _ turns 1 _) (leaving-of leave)
 
 -- ## What was written
 

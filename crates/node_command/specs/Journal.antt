@@ -12,7 +12,7 @@ use Rattle.node_core.specs.Spending.{LivesOn}
 use Rattle.node_core.specs.Told.{IsPrefix}
 use Rattle.node_loop.specs.declared.fault.ServeFault.{ServeFault}
 use Rattle.node_loop.specs.declared.fault.ServeFault.TheVariants as serve
-use Rattle.node_loop.specs.Turns.{Act, life_acts}
+use Rattle.node_loop.specs.Turns.{Act, life_acts, pace_for}
 use Rattle.node_loop.specs.Courses.{ServeState, datagram_in, line_of, served, served_from, with_feed}
 use Rattle.node_loop.specs.Serving.{IsStopped, Serves}
 use Rattle.node_loop.specs.Writing.{before_all, standing}
@@ -45,7 +45,7 @@ bound_for m link = record link { bound = Some (own_port m) }
 -- are the answers of the link, and the readings of the clock.
 abbrev pub course_of : Member → Stored → Stay → LinkState → ℕ → List ℕ → ServeState
 course_of m stored stay link reading readings =
-    served (setting_for m) (life_acts m.millis stay.turns stay.leave link.coming reading readings) (served_from (start_of m stored).node (bound_for m link))
+    served (setting_for m) (life_acts (pace_for (setting_for m) m.millis) stay.turns stay.leave link.coming reading readings) (served_from (start_of m stored).node (bound_for m link))
 
 -- The journal: what the start reports, the turns with what they report, and the line `end`.
 abbrev pub journal_of : Member → Stored → Stay → LinkState → ℕ → List ℕ → List ℕ

@@ -1,6 +1,7 @@
 -- What the text of a member sets up, line by line.
 use Rattle.std.specs.Prelude.{◌≡◌, ℕ, ◌≤◌, All, List, [], ◌∷◌, ◌++◌, Option, Some, None, Ok, fold, find, unwrap_or, option_map}
 use Rattle.ff_ids.specs.declared.Group.{Group}
+use Rattle.ff_ids.specs.Heals.{Heal}
 use Rattle.lms_tree.specs.declared.key.PublicKey.{PublicKey}
 use Rattle.play.specs.Plays.{IoState}
 use Rattle.records.specs.declared.Body.{Body}
@@ -28,18 +29,20 @@ kit_judging = record { is_ended = kit_rows.is_ended; row = kit_rows.row_for; aft
 -- what some lines set up
 pub record SetUp : Type 0 where
   pub group : Option Group
+  pub heal : Option Heal
   pub own : Option Own
   pub authority : Option PublicKey
   pub millis : Option ℕ
   pub certificates : List CheckedRecord
 
 abbrev pub nothing_up : SetUp
-nothing_up = record { group = None; own = None; authority = None; millis = None; certificates = [] }
+nothing_up = record { group = None; heal = None; own = None; authority = None; millis = None; certificates = [] }
 
 abbrev pub sets : SetUp → KitLine → SetUp
 sets u lines.Header = u
 sets u (lines.Group g) = record u { group = Some g }
 sets u (lines.Kinds kinds) = u
+sets u (lines.Heal heal) = record u { heal = Some heal }
 sets u (lines.Own m secret own_key) = record u { own = Some (record { member = m; secret = secret; key = own_key }) }
 sets u (lines.Authority authority) = record u { authority = Some authority }
 sets u (lines.Tick millis) = record u { millis = Some millis }
@@ -51,15 +54,24 @@ set_by lines = fold sets nothing_up lines
 
 -- It is all set up, as this member.
 abbrev pub SetsUp : SetUp → Member → Type 0
-SetsUp u m = u ≡ record { group = Some m.group; own = Some m.own; authority = Some m.authority; millis = Some m.millis; certificates = m.certificates.items }
+SetsUp u m =
+    u
+    ≡ record {
+      group = Some m.group;
+      heal = m.heal;
+      own = Some m.own;
+      authority = Some m.authority;
+      millis = Some m.millis;
+      certificates = m.certificates.items;
+    }
 
--- each part of a member is set up
+-- each part of a member is set up, but for the option
 pub record IsWholeSetUp (u : SetUp) : Type 0 where
   pub group : Group
   pub own : Own
   pub authority : PublicKey
   pub millis : ℕ
-  pub is : u ≡ record { group = Some group; own = Some own; authority = Some authority; millis = Some millis; certificates = u.certificates }
+  pub is : u ≡ record u { group = Some group; own = Some own; authority = Some authority; millis = Some millis }
 
 -- The lines of a whole text.
 pub record AreKit (lines : List KitLine) : Type 0 where

@@ -29,7 +29,7 @@ use Rattle.node_command.specs.Members.{key_of, tag_of}
 
 -- what the life of a member is opened with
 abbrev pub setting_for : Member → Setting
-setting_for m = setting_of m.group m.own.member m.authority (key_of m)
+setting_for m = setting_of m.group m.heal m.own.member m.authority (key_of m)
 
 -- How its life begins, where its store keeps this.
 abbrev pub start_of : Member → Stored → Call

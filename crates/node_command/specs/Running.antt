@@ -18,7 +18,7 @@ use Rattle.node_core.specs.Begins.{IsVouchable}
 use Rattle.node_core.specs.Playing.{Kept}
 use Rattle.node_core.specs.Rolls.{recs_of}
 use Rattle.node_core.specs.Spending.{spent_told}
-use Rattle.node_loop.specs.Turns.{life_acts}
+use Rattle.node_loop.specs.Turns.{life_acts, pace_for}
 use Rattle.node_loop.specs.Courses.{ServeState, served_from}
 use Rattle.node_command.specs.declared.halt.NodeHalt.{NodeHalt}
 use Rattle.node_command.specs.declared.halt.NodeHalt.TheVariants as halt
@@ -53,7 +53,7 @@ once_bound m feed was = record was { link = Some (bound_for m feed.link) }
 abbrev pub LivesOut : Member → NetInputs → Environment → Environment → Result (Unit {0}) NodeHalt → Type 0
 LivesOut m feed was now result =
     (stored : Stored) × (node : Kept) × (mid : OfDisk) × IsBegun m stored node (start_of m stored).told was.disk mid
-    × Lives (setting_for m) node (start_of m stored).told (life_acts m.millis feed.stay.turns feed.stay.leave feed.link.coming feed.reading feed.readings)
+    × Lives (setting_for m) node (start_of m stored).told (life_acts (pace_for (setting_for m) m.millis) feed.stay.turns feed.stay.leave feed.link.coming feed.reading feed.readings)
     (served_from (start_of m stored).node (bound_for m feed.link)) (record was { disk = mid }) now result
 
 -- All was done: the journal was written, the link is bound to the own port and was given what the life gives it, and the store is

@@ -9,7 +9,7 @@ use Rattle.play.specs.Plays.{IoState}
 use Rattle.records.specs.declared.Body.TheVariants.{Note, Accusation}
 use Rattle.trace.specs.Written.{IsLineOf, IsWholeLine}
 use Rattle.node_rules.specs.Nodes.{Setting}
-use Rattle.node_loop.specs.Turns.{Act, life_acts}
+use Rattle.node_loop.specs.Turns.{Act, life_acts, pace_for}
 use Rattle.node_loop.specs.Courses.{ServeState, line_of, served_from}
 use Rattle.node_command.specs.declared.halt.NodeHalt.{NodeHalt}
 use Rattle.node_command.specs.declared.halt.NodeHalt.TheVariants as halt
@@ -31,7 +31,7 @@ abbrev pub first_of : Member → Stored → NetInputs → ServeState
 first_of m stored feed = served_from (start_of m stored).node (bound_for m feed.link)
 
 abbrev pub acts_of : Member → NetInputs → List Act
-acts_of m feed = life_acts m.millis feed.stay.turns feed.stay.leave feed.link.coming feed.reading feed.readings
+acts_of m feed = life_acts (pace_for (setting_for m) m.millis) feed.stay.turns feed.stay.leave feed.link.coming feed.reading feed.readings
 
 -- A member was read from the text, a store of its key was found, and P holds of the life that this began: of its turns, which the
 -- answers of the link and the readings of the clock bring.

@@ -6,7 +6,7 @@ ghost use Rattle.records.specs.Signing.{IsChecked};
 ghost use Rattle.node_rules.specs.Lives.{is_certificate_for as is_of_member};
 ghost use Rattle.node_command.specs.Members.{AreKit, IsSoundMember, IsWholeSetUp, SetsUp, nothing_up, own_port, port_in, set_by, sets};
 
-use ff_ids::{Group, MemberId};
+use ff_ids::{Group, Heal, MemberId};
 use fields::NoMemory;
 use lms_tree::PublicKey;
 use records::{Body, Checked};
@@ -27,6 +27,7 @@ pub struct Own {
 #[derive(Drop)]
 struct Gathered {
     group: Option<Group>,
+    heal: Option<Heal>,
     own: Option<Own>,
     authority: Option<PublicKey>,
     millis: Option<u32>,
@@ -40,6 +41,7 @@ impl Model for Gathered {
 
     ghost view = { λ g. record {
       group = g.group;
+      heal = g.heal;
       own = g.own;
       authority = g.authority;
       millis = g.millis;
@@ -47,10 +49,12 @@ impl Model for Gathered {
     } };
 }
 
-/// What a whole text sets up: whom it is for, the authority's key, the milliseconds of a tick, and certificates.
+/// What a whole text sets up: whom it is for, whether nodes that lost each other come together again, the authority's key,
+/// the milliseconds of a tick, and certificates.
 #[derive(Drop)]
 pub struct Member {
     pub group: Group,
+    pub heal: Option<Heal>,
     pub own: Own,
     pub authority: PublicKey,
     pub millis: u32,
@@ -64,6 +68,7 @@ impl Gathered {
     {
         Gathered {
             group: None,
+            heal: None,
             own: None,
             authority: None,
             millis: None,
@@ -79,6 +84,7 @@ impl Gathered {
     {
         match line {
             KitLine::Group(group) => self.group = Some(group),
+            KitLine::Heal(heal) => self.heal = Some(heal),
             KitLine::Own {
                 member,
                 secret,
@@ -106,6 +112,7 @@ impl Gathered {
         match (self.group, self.own, self.authority, self.millis) {
             (Some(group), Some(own), Some(authority), Some(millis)) => Some(Member {
                 group,
+                heal: self.heal,
                 own,
                 authority,
                 millis,

@@ -6,7 +6,7 @@ ghost use Rattle.ports.specs.Count.{counted, Rose};
 ghost use Rattle.ports.specs.Link.{LinkState};
 ghost use Rattle.node_core.specs.Playing.{IsNode};
 ghost use Rattle.node_rules.specs.Nodes.{Setting, Node as RulesNode};
-ghost use Rattle.node_loop.specs.Turns.{life_acts};
+ghost use Rattle.node_loop.specs.Turns.{life_acts, pace_for};
 ghost use Rattle.node_loop.specs.Courses.{served_from};
 ghost use Rattle.node_command.specs.Halts.{IsBehind, IsServed, is_writable, is_write_fault};
 ghost use Rattle.std.specs.Io.KnownBytes.{Appends};
@@ -60,8 +60,8 @@ fn serve_to_end<D: Disk, L: Link, C: Clock, O: Sink>(
         → IsNode s node.old n → (L.state link.old).contents ≡ Some link_told
         → (C.state clock.old).coming ≡ Some readings
         → Appends taken (O.state out.old).taken (lines_of told)
-        → Lives s node.old told (life_acts pace.millis pace.stay.turns
-        pace.stay.leave link_told.coming (C.state clock.old).reading readings)
+        → Lives s node.old told (life_acts (pace_for s pace.millis)
+        pace.stay.turns pace.stay.leave link_told.coming (C.state clock.old).reading readings)
         (served_from n link_told)
         (environment taken was (D.state disk.old))
         (environment (O.state out.new).taken (L.state link.new).contents (D.state disk.new))
@@ -117,8 +117,8 @@ pub fn live<D: Disk, L: Link, C: Clock, O: Sink>(
     ensures lives { (s : Setting) (n : RulesNode) (link_told : LinkState) (readings : List ℕ)
         → IsNode s node.old n → (L.state link.old).contents ≡ Some link_told
         → (C.state clock.old).coming ≡ Some readings
-        → Lives s node.old events.now (life_acts pace.millis pace.stay.turns
-        pace.stay.leave link_told.coming (C.state clock.old).reading readings)
+        → Lives s node.old events.now (life_acts (pace_for s pace.millis)
+        pace.stay.turns pace.stay.leave link_told.coming (C.state clock.old).reading readings)
         (served_from n link_told)
         (environment (O.state out.old).taken (L.state link.old).contents (D.state disk.old))
         (environment (O.state out.new).taken (L.state link.new).contents (D.state disk.new))

@@ -29,6 +29,7 @@ pub fn begin<D: Disk>(
 {
     let Member {
         group,
+        heal,
         own,
         authority,
         certificates,
@@ -53,6 +54,7 @@ pub fn begin<D: Disk>(
         authority,
         certificates,
         nonce_seed: nonce_seed(&secret, next),
+        heal,
     };
     let signer = Signer::open(group, key, store);
     match Node::start(alloc, kit, signer, disk, events) {

@@ -138,8 +138,8 @@ filter-both p q (x ∷ xs) = filter-cond p q (p x) (q x) x (filter q xs) refl �
 pub accused-same : (s : Setting) (v : Kept) (n : Node) (m : ℕ) → IsNode s v n → v.membership.group ≡ v.group
     → list_any (λ ring. is_by v.me (kept_against (state_of s n).kept m ring)) (range_with_len 0 (ring_count v.membership.group.t)) ≡ has_accused s (state_of s n) m
 accused-same s v n m is same =
-    let g : s.group ≡ v.group = setting-group s v.group v.me v.authority v.signer.key is.setting in
-    let me : s.me ≡ v.me = setting-me s v.group v.me v.authority v.signer.key is.setting in
+    let g : s.group ≡ v.group = setting-group s v.group v.heal v.me v.authority v.signer.key is.setting in
+    let me : s.me ≡ v.me = setting-me s v.group v.heal v.me v.authority v.signer.key is.setting in
     ap (λ (x : ℕ). list_any (λ ring. is_by x (kept_against (state_of s n).kept m ring)) (range_with_len 0 (ring_count v.membership.group.t))) (sym me)
     ∙ ap (λ (x : Group). list_any (λ ring. is_by s.me (kept_against (state_of s n).kept m ring)) (range_with_len 0 (ring_count x.t))) (same ∙ sym g)
 
@@ -161,8 +161,8 @@ ring-of_note s st m note is = rw is refl
 pub rings-same : (s : Setting) (v : Kept) (n : Node) (m : ℕ) (note : NoteBody) → IsNode s v n → v.membership.group ≡ v.group
     → slice_get (filter (λ ring. is_number (monitor (state_of s n) ring m) v.me) (enabled (ring_count v.membership.group.t) note.mask.0)) 0 ≡ slice_get (monitored_rings s (state_of s n) m note) 0
 rings-same s v n m note is same =
-    let g : s.group ≡ v.group = setting-group s v.group v.me v.authority v.signer.key is.setting in
-    let me : s.me ≡ v.me = setting-me s v.group v.me v.authority v.signer.key is.setting in
+    let g : s.group ≡ v.group = setting-group s v.group v.heal v.me v.authority v.signer.key is.setting in
+    let me : s.me ≡ v.me = setting-me s v.group v.heal v.me v.authority v.signer.key is.setting in
     ap (λ (x : ℕ). slice_get (filter (λ ring. is_number (monitor (state_of s n) ring m) x) (enabled (ring_count v.membership.group.t) note.mask.0)) 0) (sym me)
     ∙ ap (λ (x : Group). slice_get (filter (λ ring. is_number (monitor (state_of s n) ring m) s.me) (enabled (ring_count x.t) note.mask.0)) 0) (same ∙ sym g)
 

@@ -1,10 +1,12 @@
 -- How a life begins.
-use Rattle.std.proofs.Common.{◌≡◌, ℕ, refl, ap, sym, ◌∙◌, List, [], ◌++◌}
+use Rattle.std.proofs.Common.{◌≡◌, ℕ, ◌+◌, refl, ap, sym, ◌∙◌, List, [], ◌++◌}
 use Rattle.records.specs.declared.Record.{Record}
 use Rattle.records.specs.declared.Body.{Body}
 use Rattle.epoch_store.specs.declared.Stored.{Stored}
 use Rattle.node_rules.specs.Nodes.{Setting, Node, state_of, event_of, certificate_of}
 use Rattle.ff_ids.specs.declared.Group.{Group}
+use Rattle.ff_ids.specs.Heals.{Heal}
+use Rattle.ff_ids.specs.declared.summary.RecordKey.{RecordKey}
 use Rattle.ff_ids.specs.Lives.{opening as life_opening}
 use Rattle.membership.specs.Holds.{Holds}
 use Rattle.detector.specs.Silence.{opening}
@@ -71,9 +73,9 @@ unfolding certificate_of
 none-blank s seed stored m = refl
 
 -- a life with nothing but what its store keeps
-pub at-opening : (s : Setting) (seed : List ℕ) (v : Kept) → s ≡ setting_of v.group v.me v.authority v.signer.key → Holds v.membership (life_opening []) → v.records ≡ fin.empty → v.roster ≡ fin.empty
-    → StandsFor v.detector (opening v.group seed) → v.telling ≡ nothing_told → IsAt s [] [] v (begun (blank s seed v.signer.state))
-at-opening s seed v setting holds records roster probes told =
+pub at-opening : (s : Setting) (seed : List ℕ) (v : Kept) → s ≡ setting_of v.group v.heal v.me v.authority v.signer.key → Holds v.membership (life_opening []) → v.records ≡ fin.empty → v.roster ≡ fin.empty
+    → StandsFor v.detector (opening v.group seed) → v.news ≡ [] → v.since ≡ v.signer.state.epoch + 1 → v.telling ≡ nothing_told → IsAt s [] [] v (begun (blank s seed v.signer.state))
+at-opening s seed v setting holds records roster probes news since told =
     record {
       is = record {
         setting = setting;
@@ -81,7 +83,9 @@ at-opening s seed v setting holds records roster probes told =
         stored = refl;
         records = λ k. ap (λ (set : Held). option_map (λ x. x.rec) (held_under set k)) records ∙ ap (λ (o : Option CheckedRecord). option_map (λ x. x.rec) o) (fin.get-empty key_cmp k);
         roster = λ m. ap (λ (r : Certificates). kept_certificate r m) roster ∙ fin.get-empty nat_cmp m ∙ sym (none-blank s seed v.signer.state m);
-        probes = subst (λ (g : Group). StandsFor v.detector (opening g seed)) (sym (setting-group s v.group v.me v.authority v.signer.key setting)) probes;
+        probes = subst (λ (g : Group). StandsFor v.detector (opening g seed)) (sym (setting-group s v.group v.heal v.me v.authority v.signer.key setting)) probes;
+        news = news;
+        since = since;
       };
       told = ap (λ (t : Tellings). t.events) told;
       sent = ap (λ (t : Tellings). t.sent) told;
@@ -90,7 +94,7 @@ at-opening s seed v setting holds records roster probes told =
 
 -- it doesn't matter what was reported
 pub other-told : (s : Setting) (v : Kept) (n : Node) (t : Tellings) → IsNode s v n → IsNode s (record v { telling = t }) n
-other-told s v n t is = record { setting = is.setting; holds = is.holds; stored = is.stored; records = is.records; roster = is.roster; probes = is.probes }
+other-told s v n t is = record { setting = is.setting; holds = is.holds; stored = is.stored; records = is.records; roster = is.roster; probes = is.probes; news = is.news; since = is.since }
 
 -- ---- the first note is signed
 
@@ -100,36 +104,42 @@ stored-node : (s : Setting) (v : Kept) (c : Call) (b : Body) (signer : SignerSta
 unfolding state_of certificate_of
 stored-node s v c b signer n key state =
     record {
-      setting = n.setting ∙ ap (setting_of v.group v.me v.authority) (sym key);
+      setting = n.setting ∙ ap (setting_of v.group v.heal v.me v.authority) (sym key);
       holds = n.holds;
       stored = state ∙ ap (λ x. stored_after x b) n.stored;
       records = n.records;
       roster = n.roster;
       probes = n.probes;
+      news = n.news;
+      since = n.since;
     }
 
-first-is : (s : Setting) (group : Group) (me : ℕ) (authority : PublicKey) (key : KeySecret) (stored : Stored) → s ≡ setting_of group me authority key
+first-is : (s : Setting) (group : Group) (heal : Option Heal) (me : ℕ) (authority : PublicKey) (key : KeySecret) (stored : Stored) → s ≡ setting_of group heal me authority key
     → next_note stored me (record { 0 = first_mask group.t stored.mask.0 }) ≡ first_note s stored
-first-is s group me authority key stored setting =
-    ap (λ (m : ℕ). next_note stored m (record { 0 = first_mask group.t stored.mask.0 })) (sym (setting-me s group me authority key setting))
-    ∙ ap (λ (g : Group). next_note stored s.me (record { 0 = first_mask g.t stored.mask.0 })) (sym (setting-group s group me authority key setting))
+first-is s group heal me authority key stored setting =
+    ap (λ (m : ℕ). next_note stored m (record { 0 = first_mask group.t stored.mask.0 })) (sym (setting-me s group heal me authority key setting))
+    ∙ ap (λ (g : Group). next_note stored s.me (record { 0 = first_mask g.t stored.mask.0 })) (sym (setting-group s group heal me authority key setting))
 
-pub may-begin : (s : Setting) (seed : List ℕ) (certificates : List Record) (r : Ready) (p : Parts) (old : SignerState) (f : First) → s ≡ setting_of r.group r.me r.authority old.key
+pub may-begin : (s : Setting) (seed : List ℕ) (certificates : List Record) (r : Ready) (p : Parts) (old : SignerState) (f : First) → s ≡ setting_of r.group r.heal r.me r.authority old.key
     → HasOpened r.group seed certificates p → IsFirst old r.signer r.group.t r.me f → old.group ≡ r.group → p.roll ≡ r.roll → p.detector ≡ r.detector
-    → r.index ≡ f.index → r.note ≡ f.note → r.rec ≡ f.rec → MayBegin s seed certificates old.state r
-may-begin s seed certificates r p old f setting has first same roll detector index note rec =
-    let o = has s r.me r.authority old setting in
+    → r.news.items ≡ [] → r.since ≡ old.state.epoch + 1 → r.index ≡ f.index → r.note ≡ f.note → r.rec ≡ f.rec → MayBegin s seed certificates old.state r
+may-begin s seed certificates r p old f setting has first same roll detector news since index note rec =
+    let o = has s r.heal r.me r.authority old setting in
     let b : Body = Note f.note in
     let call = opened s seed certificates old.state in
+    let n : Node = (with_stored b call).node in
     let note-is : Note f.note ≡ Note r.note = ap (λ (n : NoteBody). Note n) (sym note) in
-    let v : Tellings → Kept = kept_in r.group r.me r.authority old p in
-    let is : (t : Tellings) → IsNode s (kept_by r t) (with_stored b call).node = λ t.
-    subst (λ (x : Roll). IsNode s (record (kept_by r t) { membership = x.membership; roster = x.roster; records = x.records }) (with_stored b call).node) roll
-    (subst (λ (d : Probing). IsNode s (record (kept_by r t) { membership = p.roll.membership; roster = p.roll.roster; records = p.roll.records; detector = d }) (with_stored b call).node) detector
-    (stored-node s (v t) call b r.signer (o.is t) first.key first.state)) in
+    let v : Tellings → Kept = kept_in r.group r.heal r.me r.authority old p in
+    let opening : Tellings → Kept = λ t. record (kept_by r t) { membership = p.roll.membership; roster = p.roll.roster; records = p.roll.records; detector = p.detector } in
+    let is : (t : Tellings) → IsNode s (kept_by r t) n = λ t.
+    subst (λ (x : Roll). IsNode s (record (kept_by r t) { membership = x.membership; roster = x.roster; records = x.records }) n) roll
+    (subst (λ (d : Probing). IsNode s (record (opening t) { detector = d }) n) detector
+    (subst (λ (ks : List RecordKey). IsNode s (record (opening t) { news = ks }) n) (sym news)
+    (subst (λ (k : ℕ). IsNode s (record (opening t) { news = []; since = k }) n) (sym since)
+    (stored-node s (v t) call b r.signer (o.is t) first.key first.state)))) in
     record {
       is = λ t. subst (λ (x : Body). IsNode s (kept_by r t) (with_stored x call).node) note-is (is t);
-      first = sym note-is ∙ first.note ∙ first-is s r.group r.me r.authority old.key old.state setting;
+      first = sym note-is ∙ first.note ∙ first-is s r.group r.heal r.me r.authority old.key old.state setting;
       index = index ∙ first.index ∙ ap (λ (x : Stored). x.next) (o.is nothing_told).stored;
       own = ap (λ (x : CheckedRecord). x.rec) (rec ∙ first.rec) ∙ own-signed s (v nothing_told) call.node b (o.is nothing_told) same ∙ ap (λ (x : Body). own_record s call.node x) note-is;
       told_none = o.told_none;
@@ -144,9 +154,9 @@ certificates-all (r ∷ records) apart = ((apart.0.cert, apart.0.body), certific
 pub own-joined : (group : Group) (me : ℕ) (authority : PublicKey) (signer : SignerState) (seed : List ℕ) (certificates : List Record) (p : Parts)
     → HasOpened group seed certificates p → AreApart certificates → list_any (λ r. is_certificate_for me r.body) certificates ≡ true → has_joined p.roll.membership me ≡ true
 own-joined group me authority signer seed certificates p has apart own =
-    let s : Setting = setting_of group me authority signer.key in
-    let o = has s me authority signer refl in
-    let who : s.me ≡ me = setting-me s group me authority signer.key refl in
+    let s : Setting = setting_of group None me authority signer.key in
+    let o = has s None me authority signer refl in
+    let who : s.me ≡ me = setting-me s group None me authority signer.key refl in
     let member = becomes_member s certificates (begun (blank s seed signer.state)) (certificates-all certificates apart) (subst (λ (m : ℕ). list_any (λ r. is_certificate_for m r.body) certificates ≡ true) (sym who) own) in
     sym ((o.is nothing_told).holds.at_number me).member ∙ subst (λ (m : ℕ). is_member (state_of s (opened s seed certificates signer.state).node) m ≡ true) who member
 
@@ -163,8 +173,8 @@ no-notes s me (r ∷ records) c all h =
 pub own-unnoted : (group : Group) (me : ℕ) (authority : PublicKey) (signer : SignerState) (seed : List ℕ) (certificates : List Record) (p : Parts)
     → HasOpened group seed certificates p → AreApart certificates → fin.get p.roll.membership.notes me ≡ None
 own-unnoted group me authority signer seed certificates p has apart =
-    let s : Setting = setting_of group me authority signer.key in
-    let o = has s me authority signer refl in
+    let s : Setting = setting_of group None me authority signer.key in
+    let o = has s None me authority signer refl in
     sym ((o.is nothing_told).holds.at_number me).newest_note
     ∙ no-notes s me certificates (begun (blank s seed signer.state)) (certificates-all certificates apart) (ap (λ (y : State). newest y.notes me) (state-blank s seed signer.state))
 
@@ -176,6 +186,10 @@ pub first-own : (old new : SignerState) (t me : ℕ) (f : First) → IsFirst old
 first-own old new t me f h =
     let mine : f.note.member ≡ me = ap (λ (n : NoteBody). n.member) (note_is _ _ h.note) in
     ap (λ (m : ℕ). let n : NoteBody = record { member = m; epoch = f.note.epoch; mask = f.note.mask } in n) mine ∙ sym (ap (own_note me) h.state)
+
+-- and its epoch follows the stored one
+pub first-epoch : (old new : SignerState) (t me : ℕ) (f : First) → IsFirst old new t me f → new.state.epoch ≡ old.state.epoch + 1
+first-epoch old new t me f h = ap (λ (k : Stored). k.epoch) h.state ∙ ap (λ (n : NoteBody). n.epoch) (note_is _ _ h.note)
 
 -- a signature sends nothing
 sent-signs : (s : Setting) (b : Body) (c : Call) → (signs s b c).sent ≡ c.sent

@@ -1,5 +1,5 @@
 -- Certificates that a life may begin with.
-use Rattle.std.proofs.Common.{◌≡◌, ◌<◌, ◌≤◌, ℕ, eqb-true, Bool, true, false, cond, inl, inr, Some, None, List, [], ◌∷◌, length, get_or, refl, ap, sym, subst, ◌∙◌, zero, suc, arith}
+use Rattle.std.proofs.Common.{◌≡◌, ◌<◌, ◌≤◌, ℕ, eqb-true, Bool, true, false, cond, inl, inr, Option, Some, None, List, [], ◌∷◌, length, get_or, refl, ap, sym, subst, ◌∙◌, zero, suc, arith}
 use Rattle.std.specs.Prelude.{All, not, nat_eq, ◌||◌}
 use Rattle.std.specs.Cmp.{unsigned_tied}
 use Rattle.std.specs.FinMap as fin
@@ -10,6 +10,7 @@ use Rattle.std.specs.List.{AllByRecursion, list_any, list_all}
 use Rattle.std.specs.Result.{is_ok}
 use Rattle.ff_ids.specs.declared.TheConstants.{MAX_TOLERANCE}
 use Rattle.ff_ids.specs.declared.Group.{Group}
+use Rattle.ff_ids.specs.Heals.{Heal}
 use Rattle.lms_tree.specs.declared.key.PublicKey.{PublicKey}
 use Rattle.records.specs.declared.CertBody.{CertBody}
 use Rattle.records.specs.declared.Body.{Body}
@@ -55,33 +56,33 @@ for-tolerance group authority (x ∷ xs) checked apart =
     cons-all (IsCertificateFor group.t) x xs (record { cert = apart.0.cert; body = apart.0.body; tolerance = (head-of (IsCheckedIn group authority) x xs checked).tolerance })
     (for-tolerance group authority xs (tail-of (IsCheckedIn group authority) x xs checked) apart.1)
 
-setting-authority : (s : Setting) (g : Group) (me : ℕ) (a : PublicKey) (k : KeySecret) → s ≡ setting_of g me a k → s.authority ≡ keys.Lms a
+setting-authority : (s : Setting) (g : Group) (heal : Option Heal) (me : ℕ) (a : PublicKey) (k : KeySecret) → s ≡ setting_of g heal me a k → s.authority ≡ keys.Lms a
 unfolding setting_of
-setting-authority s g me a k e = ap (λ x. x.authority) e
+setting-authority s g heal me a k e = ap (λ x. x.authority) e
 
-setting-verifies : (s : Setting) (g : Group) (me : ℕ) (a : PublicKey) (k : KeySecret) (key : Key) (r : Record) → s ≡ setting_of g me a k → s.verifies key r ≡ is_ok (verdict_of key (signed_bytes g.tag g.t r.body) r.signature)
+setting-verifies : (s : Setting) (g : Group) (heal : Option Heal) (me : ℕ) (a : PublicKey) (k : KeySecret) (key : Key) (r : Record) → s ≡ setting_of g heal me a k → s.verifies key r ≡ is_ok (verdict_of key (signed_bytes g.tag g.t r.body) r.signature)
 unfolding setting_of
-setting-verifies s g me a k key r e = ap (λ x. x.verifies key r) e
+setting-verifies s g heal me a k key r e = ap (λ x. x.verifies key r) e
 
-setting-indexes : (s : Setting) (g : Group) (me : ℕ) (a : PublicKey) (k : KeySecret) → s ≡ setting_of g me a k → s.indexes ≡ index_count k
+setting-indexes : (s : Setting) (g : Group) (heal : Option Heal) (me : ℕ) (a : PublicKey) (k : KeySecret) → s ≡ setting_of g heal me a k → s.indexes ≡ index_count k
 unfolding setting_of
-setting-indexes s g me a k e = ap (λ x. x.indexes) e
+setting-indexes s g heal me a k e = ap (λ x. x.indexes) e
 
 -- what was checked under the authority's key verifies under it
-verifies-checked : (s : Setting) (g : Group) (me : ℕ) (a : PublicKey) (k : KeySecret) (x : CheckedRecord) → s ≡ setting_of g me a k → IsCheckedIn g (keys.Lms a) x → IsChecked x → s.verifies s.authority x.rec ≡ true
-verifies-checked s g me a k x e in_group good =
+verifies-checked : (s : Setting) (g : Group) (heal : Option Heal) (me : ℕ) (a : PublicKey) (k : KeySecret) (x : CheckedRecord) → s ≡ setting_of g heal me a k → IsCheckedIn g (keys.Lms a) x → IsChecked x → s.verifies s.authority x.rec ≡ true
+verifies-checked s g heal me a k x e in_group good =
     let signed : Verifies (keys.Lms a) (signed_bytes g.tag g.t x.rec.body) x.rec.signature =
     subst (λ key. Verifies key (signed_bytes g.tag g.t x.rec.body) x.rec.signature) in_group.under
     (subst (λ tag. Verifies x.key (signed_bytes tag g.t x.rec.body) x.rec.signature) in_group.tag
     (subst (λ t. Verifies x.key (signed_bytes x.tag t x.rec.body) x.rec.signature) in_group.tolerance good.signed)) in
-    ap (λ key. s.verifies key x.rec) (setting-authority s g me a k e) ∙ setting-verifies s g me a k (keys.Lms a) x.rec e ∙ good-verdict (keys.Lms a) (signed_bytes g.tag g.t x.rec.body) x.rec.signature signed
+    ap (λ key. s.verifies key x.rec) (setting-authority s g heal me a k e) ∙ setting-verifies s g heal me a k (keys.Lms a) x.rec e ∙ good-verdict (keys.Lms a) (signed_bytes g.tag g.t x.rec.body) x.rec.signature signed
 
-all-certified : (s : Setting) (own : Key) (g : Group) (me : ℕ) (a : PublicKey) (k : KeySecret) (xs : List CheckedRecord) → s ≡ setting_of g me a k → All (IsCheckedIn g (keys.Lms a)) xs → AllByRecursion IsChecked xs
+all-certified : (s : Setting) (own : Key) (g : Group) (heal : Option Heal) (me : ℕ) (a : PublicKey) (k : KeySecret) (xs : List CheckedRecord) → s ≡ setting_of g heal me a k → All (IsCheckedIn g (keys.Lms a)) xs → AllByRecursion IsChecked xs
     → AllByRecursion (HasKey me own) (recs_of xs) → AllByRecursion (IsCertifiedBy s own) (recs_of xs)
-all-certified s own g me a k [] e checked good held = tt
-all-certified s own g me a k (x ∷ xs) e checked good held = (
-  (verifies-checked s g me a k x e (head-of (IsCheckedIn g (keys.Lms a)) x xs checked) good.0, λ c is who. held.0 c is (who ∙ setting-me s g me a k e)),
-  all-certified s own g me a k xs e (tail-of (IsCheckedIn g (keys.Lms a)) x xs checked) good.1 held.1,
+all-certified s own g heal me a k [] e checked good held = tt
+all-certified s own g heal me a k (x ∷ xs) e checked good held = (
+  (verifies-checked s g heal me a k x e (head-of (IsCheckedIn g (keys.Lms a)) x xs checked) good.0, λ c is who. held.0 c is (who ∙ setting-me s g heal me a k e)),
+  all-certified s own g heal me a k xs e (tail-of (IsCheckedIn g (keys.Lms a)) x xs checked) good.1 held.1,
 )
 
 pub apart-certificates : (records : List Record) → AreApart records → AreCertificates records
@@ -108,21 +109,21 @@ own-key : (me : ℕ) (own : Key) (xs : List CheckedRecord) → AreCertificatesOf
 own-key me own xs are = keys-checked me own xs are.verify are.keys are.among
 
 -- what a sound kit gives the theorem on records that vouch for a life
-pub vouchable : (s : Setting) (kit : Kit) (signer : SignerState) → s ≡ setting_of kit.group kit.me kit.authority signer.key → IsKit kit (public_key signer.key) → signer.state.next < index_count signer.key
+pub vouchable : (s : Setting) (kit : Kit) (signer : SignerState) → s ≡ setting_of kit.group kit.heal kit.me kit.authority signer.key → IsKit kit (public_key signer.key) → signer.state.next < index_count signer.key
     → IsVouchable s (public_key signer.key) (recs_of kit.certificates.items) signer.state
 vouchable s kit signer e k left =
     let key : KeySecret = signer.key in
-    let group : s.group ≡ kit.group = setting-group s kit.group kit.me kit.authority key e in
-    let me : s.me ≡ kit.me = setting-me s kit.group kit.me kit.authority key e in
+    let group : s.group ≡ kit.group = setting-group s kit.group kit.heal kit.me kit.authority key e in
+    let me : s.me ≡ kit.me = setting-me s kit.group kit.heal kit.me kit.authority key e in
     record {
       rings = record { some = subst (λ (g : Group). 1 ≤ g.t) (sym group) k.group.some; few = subst (λ (g : Group). g.t ≤ MAX_TOLERANCE) (sym group) k.group.few };
       kit = record {
         all = apart-certificates (recs_of kit.certificates.items) k.certificates.apart;
         own = subst (λ (m : ℕ). list_any (λ r. is_certificate_for m r.body) (recs_of kit.certificates.items) ≡ true) (sym me) k.certificates.among;
       };
-      certified = all-certified s (public_key key) kit.group kit.me kit.authority key kit.certificates.items e k.checked k.certificates.verify k.certificates.keys;
-      signatures = subst (λ (x : Setting). OwnSignaturesVerify x (public_key key)) (sym e) (own-verify kit.group kit.me kit.authority key (own-key kit.me (public_key key) kit.certificates.items k.certificates));
-      left = subst (λ (n : ℕ). signer.state.next < n) (sym (setting-indexes s kit.group kit.me kit.authority key e)) left;
+      certified = all-certified s (public_key key) kit.group kit.heal kit.me kit.authority key kit.certificates.items e k.checked k.certificates.verify k.certificates.keys;
+      signatures = subst (λ (x : Setting). OwnSignaturesVerify x (public_key key)) (sym e) (own-verify kit.group kit.heal kit.me kit.authority key (own-key kit.me (public_key key) kit.certificates.items k.certificates));
+      left = subst (λ (n : ℕ). signer.state.next < n) (sym (setting-indexes s kit.group kit.heal kit.me kit.authority key e)) left;
     }
 
 -- ---- whether certificates are apart

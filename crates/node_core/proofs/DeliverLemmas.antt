@@ -25,7 +25,7 @@ pub gives-from : (s : Setting) (v1 v2 : Kept) (old new : CallerBuffers) (c : Cal
 gives-from s v1 v2 old new c at same events sent =
     let n = at.is in
     record {
-      is = subst (λ v. IsNode s v c.node) (sym same) (record { setting = n.setting; holds = n.holds; stored = n.stored; records = n.records; roster = n.roster; probes = n.probes });
+      is = subst (λ v. IsNode s v c.node) (sym same) (record { setting = n.setting; holds = n.holds; stored = n.stored; records = n.records; roster = n.roster; probes = n.probes; news = n.news; since = n.since });
       told = events ∙ at.told;
       sent = sent ∙ at.sent;
     }

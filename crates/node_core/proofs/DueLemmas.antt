@@ -87,8 +87,9 @@ plays-refused s es os v w c d same p further = record {
   due = behind-extends es os w c d (behind-same es os v w c (ap (λ (t : Tellings). t.events) same) (ap (λ (t : Tellings). t.sent) same) p.due) further;
 }
 
-pub grows-refused : (v w : Kept) → w.telling ≡ record v.telling { failed = true } → w.ended ≡ v.ended → w.group ≡ v.group → w.me ≡ v.me → w.roster ≡ v.roster → Grows v w
-grows-refused v w same ended group me roster = record {
+pub grows-refused : (v w : Kept) → w.telling ≡ record v.telling { failed = true } → w.ended ≡ v.ended → w.group ≡ v.group
+    → w.heal ≡ v.heal → w.me ≡ v.me → w.roster ≡ v.roster → Grows v w
+grows-refused v w same ended group heal me roster = record {
   going = λ fine. absurd (false≢true (sym fine ∙ ap (λ (t : Tellings). t.failed) same));
   stuck = λ failed. same ∙ sym (with-failed v.telling failed);
   events = whole-front v.telling.events w.telling.events (sym (ap (λ (t : Tellings). t.events) same));
@@ -96,6 +97,7 @@ grows-refused v w same ended group me roster = record {
   before = ap (λ (t : Tellings). t.before) same;
   ended = ended;
   group = group;
+  heal = heal;
   me = me;
   roster = λ m c is. ap (λ r. kept_certificate r m) roster ∙ is;
 }

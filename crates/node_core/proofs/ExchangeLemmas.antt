@@ -1,6 +1,6 @@
 -- Pages and what the other side lacks, by what is held.
-use Rattle.std.proofs.Common.{◌≡◌, ◌≢◌, ℕ, zero, suc, ◌+◌, ◌-◌, ◌*◌, ◌<◌, ◌≤◌, Bool, inl, inr, List, [], ◌∷◌, ◌++◌, length, take, map, Option, Some, None, is_some, refl, ap, sym, ◌∙◌, subst, arith, All}
-use Rattle.std.specs.Prelude.{filter, filter_map, flat_map, IsSome, nat_le}
+use Rattle.std.proofs.Common.{◌≡◌, ◌≢◌, ℕ, suc, ◌+◌, ◌-◌, ◌*◌, ◌<◌, Bool, inl, inr, List, [], ◌∷◌, ◌++◌, length, take, map, Option, Some, None, is_some, refl, ap, sym, ◌∙◌, subst, arith}
+use Rattle.std.specs.Prelude.{filter, filter_map, nat_le}
 use Rattle.std.specs.List.{range_with_len}
 use Rattle.std.specs.Option.{option_map, option_and_then}
 use Rattle.std.specs.FinMap.{contains_key}
@@ -14,26 +14,23 @@ use Rattle.records.specs.declared.Record.{Record}
 use Rattle.records.specs.Signing.{CheckedRecord}
 use Rattle.records.specs.Spelling.{record_bytes}
 use Rattle.gossip.specs.Differ.{differ}
-use Rattle.gossip.proofs.Within.{All-differ}
 use Rattle.record_set.specs.Held.{Held, held_under}
 use Rattle.record_set.specs.Pages.{note_of_body, note_in, entry_with, rings_of, entry_of, certified_of, summary_of, AreNoted}
 use Rattle.record_set.specs.Picks.{held_all, spelled, fitting as count_fitting}
 use Rattle.ff_ids.proofs.BitLemmas.{bits_same}
-use Rattle.record_set.proofs.ListedLemmas.{All-listed_held, IsSummary-of}
+use Rattle.record_set.proofs.ListedLemmas.{IsSummary-of}
 use Rattle.node_rules.specs.Nodes.{Node, Holding}
 use Rattle.node_rules.specs.Pages.{note_held, rings_held, entry_held, has_certificate, page, fitting, lacking}
-use Rattle.std.specs.Int.{w16, to_be_bytes}
 use Rattle.datagram.specs.declared.Datagram.{Datagram}
 use Rattle.datagram.specs.declared.Datagram.TheVariants as kinds
-use Rattle.datagram.specs.Spelling.{head_bytes, datagram_bytes, IsWritable}
+use Rattle.datagram.specs.Spelling.{datagram_bytes, IsWritable}
 use Rattle.datagram.proofs.Sizes.{summary_writable}
-use Rattle.datagram.proofs.Readings.{headed}
 use Rattle.journal.specs.declared.event.Event as journal
 use Rattle.node_rules.specs.Nodes.{Setting}
 use Rattle.node_rules.specs.Calls.{Call, sends}
 use Rattle.node_rules.specs.Deliveries.{gives}
 use Rattle.node_core.specs.Playing.{Kept, Plays, Grows, HoldsRecords}
-use Rattle.node_core.specs.Exchanging.{wanted, lacking_in, IsGiven}
+use Rattle.node_core.specs.Exchanging.{wanted, given_of, IsGiven}
 use Rattle.node_core.proofs.PlayLemmas.{filter-same, setting-me, grows-refl}
 use Rattle.node_core.proofs.ExtendLemmas.{extends-gives, extends-sends}
 use Rattle.node_core.proofs.DueLemmas.{from-fine}
@@ -66,7 +63,7 @@ page-is set n number h =
     ap (λ xs. record { page = number; listed = map (entry_held n.held) xs }) certified
     ∙ ap (λ es. record { page = number; listed = es }) (map-same (entry_held n.held) (entry_of set) (filter (λ m. contains_key set (keys.Certificate m)) (range_with_len (PAGE_MEMBERS * number) PAGE_MEMBERS)) (λ m. entry-is set n.held m h))
 
--- ---- what is lacking
+-- ---- what is given of what is held
 
 one-held : (held : Holding) (set : Held) (k : RecordKey) (ks : List RecordKey) (o : Option CheckedRecord) → held_under set k ≡ o → option_map (λ c. c.rec) o ≡ held k
     → filter_map held ks ≡ map (λ c. c.rec) (held_all set ks) → filter_map held (k ∷ ks) ≡ map (λ c. c.rec) (held_all set (k ∷ ks))
@@ -88,34 +85,15 @@ fitting-is room (c ∷ cs) =
       | inr not_fit ↦ rw not_fit refl
     ]
 
-pub lacking-is : (set : Held) (n : Node) (theirs : Summary) → HoldsRecords set n.held → lacking n theirs ≡ lacking_in set theirs
+-- the records under the keys, as many as fit
+pub given-held : (set : Held) (held : Holding) (ks : List RecordKey) → HoldsRecords set held → fitting 32760 (filter_map held ks) ≡ given_of set ks
+given-held set held ks h = ap (fitting 32760) (all-held held set ks h) ∙ fitting-is 32760 (held_all set ks)
+
+pub lacking-is : (set : Held) (n : Node) (to : ℕ) (theirs : Summary) → HoldsRecords set n.held → lacking n to theirs ≡ given_of set (wanted set to theirs)
 unfolding lacking
-lacking-is set n theirs h =
-    ap (λ (s : Summary). fitting 32760 (filter_map n.held (differ s.listed theirs.listed))) (page-is set n theirs.page h)
-    ∙ ap (fitting 32760) (all-held n.held set (differ (summary_of set theirs.page).listed theirs.listed) h)
-    ∙ fitting-is 32760 (wanted set theirs)
-
--- ---- the keys are held
-
-pub all-wanted-held : (set : Held) (number : ℕ) (theirs : List SummaryEntry) → All (λ k. IsSome (held_under set k)) (differ (summary_of set number).listed theirs)
-all-wanted-held set number theirs =
-    All-differ (λ k. IsSome (held_under set k)) (summary_of set number).listed theirs
-    (λ k d lt. let e = All-listed_held set number k d lt in record { certificate = e.certificate; note = e.note; accusation = e.accusation })
-
--- ---- bytes
-
-pub spelled-records : (cs : List CheckedRecord) → spelled cs ≡ flat_map record_bytes (map (λ c. c.rec) cs)
-spelled-records [] = refl
-spelled-records (c ∷ cs) = ap (λ xs. record_bytes c.rec ++ xs) (spelled-records cs)
-
-pub length-records : (cs : List CheckedRecord) → length (map (λ c. c.rec) cs) ≡ length cs
-length-records [] = refl
-length-records (c ∷ cs) = ap suc (length-records cs)
-
-pub length-front : {X : Type 0} (n : ℕ) (xs : List X) → n ≤ length xs → length (take n xs) ≡ n
-length-front zero xs h = refl
-length-front (suc n) [] h = absurd (omega (arith, h))
-length-front (suc n) (x ∷ xs) h = ap suc (length-front n xs (omega (arith, h)))
+lacking-is set n to theirs h =
+    ap (λ (s : Summary). fitting 32760 (filter_map n.held (differ s.listed theirs.listed ++ keys.Removal to ∷ []))) (page-is set n theirs.page h)
+    ∙ given-held set n.held (wanted set to theirs) h
 
 -- ---- the code's steps
 
@@ -123,44 +101,30 @@ pub page-writable : (from : ℕ) (flag : Bool) (set : Held) (number : ℕ) (s : 
 page-writable from flag set number s is below noted =
     subst (λ x. IsWritable (kinds.Summary from flag x)) (sym is) (summary_writable from flag (summary_of set number) (IsSummary-of set number noted below))
 
-pub given-is : (from : ℕ) (set : Held) (theirs : Summary) (count : ℕ) (head picked bytes : List ℕ) → count ≡ count_fitting 32760 (wanted set theirs) → count ≢ 0 → count ≤ length (wanted set theirs)
-    → head ≡ head_bytes 4 from ++ to_be_bytes w16 count → picked ≡ spelled (take count (wanted set theirs)) → bytes ≡ head ++ picked → IsGiven from set theirs bytes
-given-is from set theirs count head picked bytes is some within headed_so spelled_so both =
-    let all : List CheckedRecord = wanted set theirs in
-    let records : List Record = map (λ c. c.rec) (take count all) in
-    let same : records ≡ lacking_in set theirs = ap (λ (k : ℕ). map (λ c. c.rec) (take k all)) is in
-    let long : length records ≡ count = length-records (take count all) ∙ length-front count all within in
-    let text : bytes ≡ datagram_bytes (kinds.Records from records) =
-    both ∙ ap (λ x. x ++ picked) (headed_so ∙ ap (λ (k : ℕ). head_bytes 4 from ++ to_be_bytes w16 k) (sym long)) ∙ ap (λ x. (head_bytes 4 from ++ to_be_bytes w16 (length records)) ++ x) (spelled_so ∙ spelled-records (take count all)) ∙ headed from records in
-    record {
-      some = λ none. some (sym long ∙ ap (λ (xs : List Record). length xs) (same ∙ none));
-      spelled = text ∙ ap (λ (xs : List Record). datagram_bytes (kinds.Records from xs)) same;
-    }
-
-pub none-is : (set : Held) (theirs : Summary) → 0 ≡ count_fitting 32760 (wanted set theirs) → lacking_in set theirs ≡ []
-none-is set theirs is = ap (λ (k : ℕ). map (λ c. c.rec) (take k (wanted set theirs))) (sym is)
-
 gives-some : (s : Setting) (to : ℕ) (records : List Record) (c : Call) → records ≢ [] → gives s to records c ≡ sends s (kinds.Records s.me records) c to
 gives-some s to [] c h = absurd (h refl)
 gives-some s to (r ∷ records) c h = refl
 
 pub given-at : (s : Setting) (es : List journal.Event) (os : List (ℕ × List ℕ)) (v v1 : Kept) (c : Call) (to : ℕ) (theirs : Summary) (bytes : List ℕ)
-    → Plays s es os v c → Grows v v1 → IsGiven v.me v.records theirs bytes → ((d : Datagram) → bytes ≡ datagram_bytes d → Plays s es os v1 (sends s d c to))
-    → Plays s es os v1 (gives s to (lacking c.node theirs) c)
+    → Plays s es os v c → Grows v v1 → IsGiven v.me v.records (wanted v.records to theirs) bytes
+    → ((d : Datagram) → bytes ≡ datagram_bytes d → Plays s es os v1 (sends s d c to)) → Plays s es os v1 (gives s to (lacking c.node to theirs) c)
 given-at s es os v v1 c to theirs bytes p grows given sent =
-    from-fine s es os v v1 c (gives s to (lacking c.node theirs) c) p grows (extends-gives s to (lacking c.node theirs) c) (λ h.
+    let lacks : List Record = lacking c.node to theirs in
+    let gave : List Record = given_of v.records (wanted v.records to theirs) in
+    from-fine s es os v v1 c (gives s to lacks c) p grows (extends-gives s to lacks c) (λ h.
     let n = h.is in
-    let me : v.me ≡ s.me = sym (setting-me s v.group v.me v.authority v.signer.key n.setting) in
-    let same : lacking c.node theirs ≡ lacking_in v.records theirs = lacking-is v.records c.node theirs n.records in
-    let at = sent (kinds.Records v.me (lacking_in v.records theirs)) given.spelled in
-    let at2 = subst (λ m. Plays s es os v1 (sends s (kinds.Records m (lacking_in v.records theirs)) c to)) me at in
-    subst (λ x. Plays s es os v1 x) (sym (ap (λ xs. gives s to xs c) same ∙ gives-some s to (lacking_in v.records theirs) c given.some)) at2)
+    let me : v.me ≡ s.me = sym (setting-me s v.group v.heal v.me v.authority v.signer.key n.setting) in
+    let same : lacks ≡ gave = lacking-is v.records c.node to theirs n.records in
+    let at = sent (kinds.Records v.me gave) given.spelled in
+    let at2 = subst (λ m. Plays s es os v1 (sends s (kinds.Records m gave) c to)) me at in
+    subst (λ x. Plays s es os v1 x) (sym (ap (λ xs. gives s to xs c) same ∙ gives-some s to gave c given.some)) at2)
 
 pub nothing-at : (s : Setting) (es : List journal.Event) (os : List (ℕ × List ℕ)) (v : Kept) (c : Call) (to : ℕ) (theirs : Summary)
-    → Plays s es os v c → lacking_in v.records theirs ≡ [] → Plays s es os v (gives s to (lacking c.node theirs) c)
+    → Plays s es os v c → given_of v.records (wanted v.records to theirs) ≡ [] → Plays s es os v (gives s to (lacking c.node to theirs) c)
 nothing-at s es os v c to theirs p none =
-    from-fine s es os v v c (gives s to (lacking c.node theirs) c) p (grows-refl v) (extends-gives s to (lacking c.node theirs) c) (λ h.
-    let same = lacking-is v.records c.node theirs h.is.records ∙ none in
+    let lacks : List Record = lacking c.node to theirs in
+    from-fine s es os v v c (gives s to lacks c) p (grows-refl v) (extends-gives s to lacks c) (λ h.
+    let same = lacking-is v.records c.node to theirs h.is.records ∙ none in
     subst (λ xs. Plays s es os v (gives s to xs c)) (sym same) p)
 
 pub page-at : (s : Setting) (es : List journal.Event) (os : List (ℕ × List ℕ)) (v v1 : Kept) (c : Call) (to : ℕ) (flag : Bool) (number : ℕ) (bytes : List ℕ)
@@ -169,7 +133,7 @@ pub page-at : (s : Setting) (es : List journal.Event) (os : List (ℕ × List �
 page-at s es os v v1 c to flag number bytes p grows spelled sent =
     from-fine s es os v v1 c (sends s (kinds.Summary s.me flag (page c.node number)) c to) p grows (extends-sends s (kinds.Summary s.me flag (page c.node number)) c to) (λ h.
     let n = h.is in
-    let me : v.me ≡ s.me = sym (setting-me s v.group v.me v.authority v.signer.key n.setting) in
+    let me : v.me ≡ s.me = sym (setting-me s v.group v.heal v.me v.authority v.signer.key n.setting) in
     let same : page c.node number ≡ summary_of v.records number = page-is v.records c.node number n.records in
     let at = sent (kinds.Summary v.me flag (summary_of v.records number)) spelled in
     let at2 = subst (λ m. Plays s es os v1 (sends s (kinds.Summary m flag (summary_of v.records number)) c to)) me at in

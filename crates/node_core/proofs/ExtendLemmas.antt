@@ -1,23 +1,25 @@
 -- A step of the definitions only adds: what a call has reported and sent so far is a front of what it has afterwards.
 use Rattle.std.proofs.Common.{ℕ, Bool, true, false, cond, List, [], ◌∷◌, Option, Some, None, refl, Result, Ok, Err}
-use Rattle.std.specs.Prelude.{fold, ◌==◌}
+use Rattle.std.specs.Prelude.{fold}
 use Rattle.ff_ids.specs.Views.{State}
 use Rattle.ff_ids.specs.Steps.{Event}
 use Rattle.ff_ids.specs.declared.Fault.{Fault}
+use Rattle.ff_ids.specs.declared.NoteBody.{NoteBody}
 use Rattle.ff_ids.specs.declared.summary.Summary.{Summary}
 use Rattle.records.specs.declared.Body.{Body}
-use Rattle.records.specs.declared.Body.TheVariants.{Certificate, Note, Accusation}
+use Rattle.records.specs.declared.Body.TheVariants.{Note}
 use Rattle.records.specs.declared.Record.{Record}
 use Rattle.datagram.specs.declared.Datagram.{Datagram}
 use Rattle.datagram.specs.declared.Datagram.TheVariants as kinds
 use Rattle.journal.specs.declared.event.What as whats
 use Rattle.journal.specs.declared.event.What.TheVariants as told
-use Rattle.node_rules.specs.Nodes.{Setting, state_of, event_of}
+use Rattle.node_rules.specs.Nodes.{Setting, state_of, event_of, neighbours}
 use Rattle.node_rules.specs.Pages.{partner, lacking}
 use Rattle.node_rules.specs.Refusals.{refusal}
 use Rattle.node_rules.specs.Calls.{Call, tells, lives, takes, sends, sends_to_all, spends, signs, signs_and_sends, own_record, wants, is_used_up}
-use Rattle.node_rules.specs.Deliveries.{answer_to, answers, judged, handles, handles_all, is_other, pinged, ponged_by, gives, replies, exchanges, hears}
-use Rattle.node_rules.specs.Ticking.{has_accused, ring_for, wants_accusation, accuses, accuses_all, pings_all, summary_to, gossips, due_tick}
+use Rattle.node_rules.specs.Deliveries.{asked_with, gives_note, settles, judged, handles, handles_all, is_other, pinged, ponged_by, gives, replies, exchanges, hears}
+use Rattle.node_rules.specs.Ticking.{has_accused, ring_for, wants_accusation, accuses, accuses_all, fresh, spreads_all, spreads, pings_all, summary_to, gossips, due_tick}
+use Rattle.node_core.specs.News.{keeps}
 use Rattle.node_core.specs.Playing.{Extends}
 use Rattle.node_core.proofs.TellingLemmas.{front-refl, front-trans}
 
@@ -47,6 +49,9 @@ extends-lives s e c = record { told = record { more = _; is = refl }; sent = fro
 pub extends-takes : (s : Setting) (r : Record) (c : Call) → Extends c (takes s r c)
 unfolding takes
 extends-takes s r c = let h = extends-lives s (event_of s r.body) c in record { told = h.told; sent = h.sent }
+
+pub extends-keeps : (s : Setting) (r : Record) (c : Call) → Extends c (keeps s r c)
+extends-keeps s r c = let h = extends-lives s (event_of s r.body) c in record { told = h.told; sent = h.sent }
 
 pub extends-sends : (s : Setting) (d : Datagram) (c : Call) (to : ℕ) → Extends c (sends s d c to)
 unfolding sends
@@ -78,17 +83,21 @@ extends-wants s b to c =
 
 -- ---- a delivery
 
-pub extends-answers : (s : Setting) (b : Body) (c : Call) → Extends c (answers true s b c)
-extends-answers s (Certificate x) c = extends-same c
-extends-answers s (Note n) c = extends-same c
-extends-answers s (Accusation a) c = extends-cond c _ c (a.accused == s.me) (extends-wants s (answer_to s c.node.stored a) _ c) (extends-same c)
+pub extends-gives_note : (s : Setting) (note : Option NoteBody) (c : Call) → Extends c (gives_note true s note c)
+extends-gives_note s None c = extends-same c
+extends-gives_note s (Some note) c = extends-wants s (Note note) (neighbours s) c
+
+pub extends-settles : (s : Setting) (fault : Option Fault) (r : Record) (c : Call) → Extends c (settles s fault r c)
+extends-settles s (Some fault) r c = extends-tells s (told.Took r.body (Some fault)) c
+extends-settles s None r c =
+    let c1 : Call = tells s (told.Took r.body None) c in
+    extends-trans c c1 (takes s r c1) (extends-tells s (told.Took r.body None) c) (extends-takes s r c1)
 
 extends-judged : (s : Setting) (fault : Option Fault) (r : Record) (c : Call) → Extends c (judged true s fault r c)
-extends-judged s (Some fault) r c = extends-tells s (told.Took r.body (Some fault)) c
-extends-judged s None r c =
-    let c1 : Call = tells s (told.Took r.body None) c in
-    let c2 : Call = takes s r c1 in
-    extends-trans c c1 (answers true s r.body c2) (extends-tells s (told.Took r.body None) c) (extends-trans c1 c2 (answers true s r.body c2) (extends-takes s r c1) (extends-answers s r.body c2))
+extends-judged s fault r c =
+    let note : Option NoteBody = asked_with s c.node fault r.body r in
+    let c1 : Call = settles s fault r c in
+    extends-trans c c1 (gives_note true s note c1) (extends-settles s fault r c) (extends-gives_note s note c1)
 
 pub extends-handles : (s : Setting) (c : Call) (r : Record) → Extends c (handles true s c r)
 unfolding handles
@@ -117,10 +126,10 @@ extends-replies s to false number c = extends-sends s _ c to
 pub extends-exchanges : (s : Setting) (from : ℕ) (flag : Bool) (theirs : Summary) (c : Call) → Extends c (exchanges s from flag theirs c)
 extends-exchanges s from flag theirs c =
     let c1 : Call = tells s (told.Summary from theirs.page flag) c in
-    let c2 : Call = gives s from (lacking c.node theirs) c1 in
+    let c2 : Call = gives s from (lacking c.node from theirs) c1 in
     let first = extends-tells s (told.Summary from theirs.page flag) c in
     extends-cond c (replies s from flag theirs.page c2) c1 (is_other s c.node from)
-    (extends-trans c c1 (replies s from flag theirs.page c2) first (extends-trans c1 c2 (replies s from flag theirs.page c2) (extends-gives s from (lacking c.node theirs) c1) (extends-replies s from flag theirs.page c2)))
+    (extends-trans c c1 (replies s from flag theirs.page c2) first (extends-trans c1 c2 (replies s from flag theirs.page c2) (extends-gives s from (lacking c.node from theirs) c1) (extends-replies s from flag theirs.page c2)))
     first
 
 pub extends-hears : (s : Setting) (heard : Result Datagram ℕ) (c : Call) → Extends c (hears s heard c)
@@ -156,9 +165,27 @@ extends-summary_to s round (Some to) c = extends-sends s _ c to
 pub extends-gossips : (s : Setting) (round : ℕ) (c : Call) → Extends c (gossips s round c)
 extends-gossips s round c = extends-summary_to s round (partner s c.node round) c
 
-pub extends-due : (s : Setting) (silent : List ℕ) (pings : List (ℕ × ℕ)) (round : ℕ) (c : Call) → Extends c (due_tick s silent pings round c)
-unfolding due_tick
-extends-due s silent pings round c =
+pub extends-spreads_all : (s : Setting) (records : List Record) (c : Call) → Extends c (spreads_all s records c)
+extends-spreads_all s [] c = extends-same c
+extends-spreads_all s (r ∷ records) c =
+    extends-sends_to_all s (neighbours s (state_of s c.node)) (kinds.Records s.me (r ∷ records)) c
+
+pub extends-spreads : (s : Setting) (c : Call) → Extends c (spreads s c)
+unfolding spreads
+extends-spreads s c = let h = extends-spreads_all s (fresh c.node) c in record { told = h.told; sent = h.sent }
+
+-- the accusations, the pings and the summary
+pub extends-accusing : (s : Setting) (silent : List ℕ) (pings : List (ℕ × ℕ)) (round : ℕ) (c : Call)
+    → Extends c (gossips s round (pings_all s pings (accuses_all s silent c)))
+extends-accusing s silent pings round c =
     let c1 : Call = accuses_all s silent c in
     let c2 : Call = pings_all s pings c1 in
     extends-trans c c1 (gossips s round c2) (extends-accuses_all s silent c) (extends-trans c1 c2 (gossips s round c2) (extends-pings_all s pings c1) (extends-gossips s round c2))
+
+pub extends-due : (s : Setting) (silent : List ℕ) (pings : List (ℕ × ℕ)) (round : ℕ) (c : Call)
+    → Extends c (due_tick s silent pings round c)
+unfolding due_tick
+extends-due s silent pings round c =
+    let c1 : Call = spreads s c in
+    extends-trans c c1 (gossips s round (pings_all s pings (accuses_all s silent c1))) (extends-spreads s c)
+    (extends-accusing s silent pings round c1)

@@ -6,14 +6,15 @@ use Rattle.std.proofs.lemmas.Bool.{cond_both}
 use Rattle.std.proofs.lemmas.List.{take_more}
 use Rattle.ff_ids.specs.declared.Group.{Group}
 use Rattle.ff_ids.specs.Masks.{ring_count}
-use Rattle.ff_ids.specs.Views.{all_numbers}
+use Rattle.ff_ids.specs.Heals.{Heal}
+use Rattle.ff_ids.specs.Views.{State, all_numbers}
 use Rattle.validate.specs.Certified.{certificate_of as kept_certificate}
 use Rattle.gossip.specs.Partners as gossip
 use Rattle.node_rules.specs.Nodes.{Setting, Node, state_of, certified}
 use Rattle.node_rules.specs.Pages.{partner, page_number}
 use Rattle.node_core.specs.Playing.{Kept, IsNode}
 use Rattle.node_core.proofs.TellingLemmas.{nil-right}
-use Rattle.node_core.proofs.PlayLemmas.{filter-same, filter-append, range-more, setting-group, setting-me}
+use Rattle.node_core.proofs.PlayLemmas.{filter-same, filter-append, range-more, setting-group, setting-me, setting-heal}
 
 pub filter-more : (q : ℕ → Bool) (n : ℕ) → cond (q n) (filter q (range_with_len 0 n) ++ n ∷ []) (filter q (range_with_len 0 n)) ≡ filter q (range_with_len 0 (n + 1))
 filter-more q n =
@@ -35,17 +36,26 @@ certified-is : (s : Setting) (v : Kept) (n : Node) (numbers : List ℕ) → IsNo
 certified-is s v n numbers is listed = listed ∙ filter-same _ _ all_numbers (λ m. ap is_some (is.roster m))
 
 pub partner-is : (s : Setting) (v : Kept) (n : Node) (numbers : List ℕ) (round : ℕ) → IsNode s v n → numbers ≡ filter (λ m. is_some (kept_certificate v.roster m)) all_numbers
-    → gossip.partner v.group.t (state_of s n) numbers v.me round ≡ partner s n round
+    → gossip.partner_with v.heal v.group.t (state_of s n) numbers v.me round ≡ partner s n round
 unfolding partner
 partner-is s v n numbers round is listed =
-    let g : v.group ≡ s.group = sym (setting-group s v.group v.me v.authority v.signer.key is.setting) in
-    let me : v.me ≡ s.me = sym (setting-me s v.group v.me v.authority v.signer.key is.setting) in
-    ap (λ (x : Group). gossip.partner x.t (state_of s n) numbers v.me round) g ∙ ap (λ (m : ℕ). gossip.partner s.group.t (state_of s n) numbers m round) me
-    ∙ ap (λ (xs : List ℕ). gossip.partner s.group.t (state_of s n) xs s.me round) (certified-is s v n numbers is listed)
+    let st : State = state_of s n in
+    let g : v.group ≡ s.group = sym (setting-group s v.group v.heal v.me v.authority v.signer.key is.setting) in
+    let me : v.me ≡ s.me = sym (setting-me s v.group v.heal v.me v.authority v.signer.key is.setting) in
+    ap (λ (h : Option Heal). gossip.partner_with h v.group.t st numbers v.me round) (sym (setting-heal s v n is))
+    ∙ ap (λ (x : Group). gossip.partner_with s.heal x.t st numbers v.me round) g
+    ∙ ap (λ (m : ℕ). gossip.partner_with s.heal s.group.t st numbers m round) me
+    ∙ ap (λ (xs : List ℕ). gossip.partner_with s.heal s.group.t st xs s.me round) (certified-is s v n numbers is listed)
 
 pub number-is : (s : Setting) (v : Kept) (n : Node) (numbers : List ℕ) (round : ℕ) → IsNode s v n → numbers ≡ filter (λ m. is_some (kept_certificate v.roster m)) all_numbers
-    → gossip.page_of round (ring_count v.group.t) (unwrap_or (last_or None numbers) 0) ≡ page_number s n round
+    → gossip.page_with v.heal (state_of s n) numbers v.me round (ring_count v.group.t) (unwrap_or (last_or None numbers) 0) ≡ page_number s n round
 unfolding page_number
 number-is s v n numbers round is listed =
-    let g : v.group ≡ s.group = sym (setting-group s v.group v.me v.authority v.signer.key is.setting) in
-    ap (λ (x : Group). gossip.page_of round (ring_count x.t) (unwrap_or (last_or None numbers) 0)) g ∙ ap (λ (xs : List ℕ). gossip.page_of round (ring_count s.group.t) (unwrap_or (last_or None xs) 0)) (certified-is s v n numbers is listed)
+    let st : State = state_of s n in
+    let top : List ℕ → ℕ = λ xs. unwrap_or (last_or None xs) 0 in
+    let g : v.group ≡ s.group = sym (setting-group s v.group v.heal v.me v.authority v.signer.key is.setting) in
+    let me : v.me ≡ s.me = sym (setting-me s v.group v.heal v.me v.authority v.signer.key is.setting) in
+    ap (λ (h : Option Heal). gossip.page_with h st numbers v.me round (ring_count v.group.t) (top numbers)) (sym (setting-heal s v n is))
+    ∙ ap (λ (x : Group). gossip.page_with s.heal st numbers v.me round (ring_count x.t) (top numbers)) g
+    ∙ ap (λ (m : ℕ). gossip.page_with s.heal st numbers m round (ring_count s.group.t) (top numbers)) me
+    ∙ ap (λ (xs : List ℕ). gossip.page_with s.heal st xs s.me round (ring_count s.group.t) (top xs)) (certified-is s v n numbers is listed)

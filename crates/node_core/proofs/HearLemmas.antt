@@ -24,7 +24,7 @@ some-copied (Some x) = refl
 
 pub other-then : (s : Setting) (v : Kept) (n : Node) (m : ℕ) (o : Option (Bor CertBody)) → IsNode s v n → option_copied o ≡ kept_certificate v.roster m → m ≢ v.me → is_some o ≡ is_other s n m
 other-then s v n m o is got apart =
-    let off : eqb m s.me ≡ false = ap (eqb m) (setting-me s v.group v.me v.authority v.signer.key is.setting) ∙ differs m v.me apart in
+    let off : eqb m s.me ≡ false = ap (eqb m) (setting-me s v.group v.heal v.me v.authority v.signer.key is.setting) ∙ differs m v.me apart in
     some-copied o ∙ ap is_some (got ∙ is.roster m) ∙ sym (ap (λ b. is_certified n m && not b) off ∙ and-true (is_certified n m))
   where
     differs : (x y : ℕ) → x ≢ y → eqb x y ≡ false
@@ -36,7 +36,7 @@ other-then s v n m o is got apart =
 
 pub other-else : (s : Setting) (v : Kept) (n : Node) (m : ℕ) → IsNode s v n → m ≡ v.me → false ≡ is_other s n m
 other-else s v n m is same =
-    let on : eqb m s.me ≡ true = eq-eqb m s.me (same ∙ sym (setting-me s v.group v.me v.authority v.signer.key is.setting)) in
+    let on : eqb m s.me ≡ true = eq-eqb m s.me (same ∙ sym (setting-me s v.group v.heal v.me v.authority v.signer.key is.setting)) in
     sym (ap (λ b. is_certified n m && not b) on ∙ and_right (is_certified n m) false refl)
 
 -- a datagram of the node itself
@@ -44,7 +44,7 @@ pub own-datagram : (s : Setting) (es : List journal.Event) (os : List (ℕ × Li
     → Plays s es os v c → Grows v v1 → Plays s es os v1 (sends s (d v.me) c to) → Plays s es os v1 (sends s (d s.me) c to)
 own-datagram s es os v v1 c to d p grows q =
     from-fine s es os v v1 c (sends s (d s.me) c to) p grows (extends-sends s (d s.me) c to) (λ h.
-    subst (λ m. Plays s es os v1 (sends s (d m) c to)) (sym (setting-me s v.group v.me v.authority v.signer.key h.is.setting)) q)
+    subst (λ m. Plays s es os v1 (sends s (d m) c to)) (sym (setting-me s v.group v.heal v.me v.authority v.signer.key h.is.setting)) q)
 
 -- the probes have changed
 abbrev pub with_probes : History → Call → Call
@@ -58,7 +58,7 @@ probed-at s es os v c d h p stands = record {
       let at = p.at fine in
       let n = at.is in
       record {
-        is = record { setting = n.setting; holds = n.holds; stored = n.stored; records = n.records; roster = n.roster; probes = stands n };
+        is = record { setting = n.setting; holds = n.holds; stored = n.stored; records = n.records; roster = n.roster; probes = stands n; news = n.news; since = n.since };
         told = at.told;
         sent = at.sent;
         before = at.before;
@@ -68,7 +68,7 @@ probed-at s es os v c d h p stands = record {
 
 -- whatever the probes were
 pub grows-probed : (a b : Kept) (d : Probing) → Grows (record a { detector = d }) b → Grows a b
-grows-probed a b d h = record { going = h.going; stuck = h.stuck; events = h.events; sent = h.sent; before = h.before; ended = h.ended; group = h.group; me = h.me; roster = h.roster }
+grows-probed a b d h = record { going = h.going; stuck = h.stuck; events = h.events; sent = h.sent; before = h.before; ended = h.ended; group = h.group; heal = h.heal; me = h.me; roster = h.roster }
 
 pub ponged-is : (s : Setting) (from nonce : ℕ) (c : Call) → ponged_by s from nonce c ≡ tells s (told.Pong from nonce (counts c.node.probes from nonce)) (with_probes (ponged c.node.probes from nonce) c)
 unfolding state_of

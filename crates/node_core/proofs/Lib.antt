@@ -6,7 +6,9 @@ pub mod NotedLemmas
 pub mod SpendLemmas
 pub mod RefusalLemmas
 pub mod HandleLemmas
+pub mod ReturnLemmas
 pub mod HearLemmas
+pub mod GivenLemmas
 pub mod ExchangeLemmas
 pub mod RollLemmas
 pub mod CertificateLemmas
@@ -14,6 +16,7 @@ pub mod BeginLemmas
 pub mod OwnKeyLemmas
 pub mod DeliverLemmas
 pub mod GossipLemmas
+pub mod SpreadLemmas
 pub mod AccusingLemmas
 pub mod TickLemmas
 pub mod DiskLemmas

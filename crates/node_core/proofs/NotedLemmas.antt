@@ -10,6 +10,7 @@ use Rattle.std.specs.Prelude.{nat_eq, not}
 use Rattle.ff_ids.specs.declared.AccBody.{AccBody}
 use Rattle.ff_ids.specs.declared.NoteBody.{NoteBody}
 use Rattle.ff_ids.specs.declared.Group.{Group}
+use Rattle.ff_ids.specs.Heals.{Heal}
 use Rattle.ff_ids.specs.declared.summary.RecordKey.{RecordKey}
 use Rattle.ff_ids.specs.declared.summary.RecordKey.TheVariants as keys
 use Rattle.ff_ids.specs.Lives.{opening}
@@ -33,12 +34,12 @@ use Rattle.records.specs.declared.Body.{Body}
 use Rattle.records.specs.declared.Body.TheVariants.{Certificate, Note, Accusation}
 use Rattle.records.specs.Signing.{CheckedRecord}
 use Rattle.rebuttal.specs.Rebuttals.{IsAgainst}
-use Rattle.record_set.specs.Held.{Held, key_cmp, key_of, held_under}
+use Rattle.record_set.specs.Held.{Held, key_cmp, key_of, held_under, with_option, retired}
 use Rattle.record_set.specs.Pages.{note_of_body, note_in, AreNoted}
 use Rattle.record_set.proofs.KeyLemmas.{key_cmp_total, is_key-true, is_key-same}
 use Rattle.node_rules.specs.Nodes.{key_of_accusation}
 use Rattle.node_rules.proofs.OwnNote.{IsNotOwn, option_or-none, step-same}
-use Rattle.node_core.specs.Records.{without_all}
+use Rattle.node_core.specs.Records.{without_all, retired_all, ended_all}
 use Rattle.node_core.specs.Noted.{HoldsNotes, IsOthers, has_note, own_note}
 use Rattle.node_core.proofs.PlayLemmas.{Steps}
 
@@ -96,10 +97,56 @@ held-before held (a ∷ ended) k h =
     let was = held-before (fin.remove held (key_of_accusation a)) ended k h in
     some-kept (eq_by_cmp key_cmp k (key_of_accusation a)) (held_under held k) (sym (ap is_some (fin.get-remove key_cmp_total held (key_of_accusation a) k)) ∙ was)
 
-beside-without : (held : Held) (ended fell : List AccBody) → AreNoted held → IsBeside held (without_all (without_all held ended) fell)
-beside-without held ended fell h = record {
-  notes = λ m. notes-without (without_all held ended) fell m ∙ notes-without held ended m;
-  accused = λ m ring is. h.accused m ring (held-before held ended (accused_on m ring) (held-before (without_all held ended) fell (accused_on m ring) is));
+-- a removal is no note, and no accusation that is kept
+abbrev IsKeptOn : RecordKey → Type 0
+IsKeptOn (keys.Certificate m) = ⊥
+IsKeptOn (keys.Note m) = Unit {0}
+IsKeptOn (keys.Accusation m ring) = Unit {0}
+IsKeptOn (keys.Removal m) = ⊥
+
+removal-apart : (k : RecordKey) (m : ℕ) → IsKeptOn k → eq_by_cmp key_cmp k (keys.Removal m) ≡ false
+removal-apart (keys.Certificate n) m kept = absurd kept
+removal-apart (keys.Note n) m kept = refl
+removal-apart (keys.Accusation n ring) m kept = refl
+removal-apart (keys.Removal n) m kept = absurd kept
+
+under-other : (held : Held) (m : ℕ) (o : Option CheckedRecord) (k : RecordKey) → IsKeptOn k → held_under (with_option held (keys.Removal m) o) k ≡ held_under held k
+under-other held m None k kept = fin.get-remove key_cmp_total held (keys.Removal m) k ∙ ap (λ b. cond b None (held_under held k)) (removal-apart k m kept)
+under-other held m (Some c) k kept = fin.get-insert key_cmp_total held (keys.Removal m) c k ∙ ap (λ b. cond b (Some c) (held_under held k)) (removal-apart k m kept)
+
+under-retired : (held : Held) (a : AccBody) (k : RecordKey) → IsKeptOn k → held_under (retired held a.accused a.ring) k ≡ held_under (fin.remove held (key_of_accusation a)) k
+under-retired held a k kept = under-other (fin.remove held (key_of_accusation a)) a.accused (held_under held (key_of_accusation a)) k kept
+
+notes-retired : (held : Held) (ended : List AccBody) (m : ℕ) → held_under (retired_all held ended) (keys.Note m) ≡ held_under held (keys.Note m)
+notes-retired held [] m = refl
+notes-retired held (a ∷ ended) m =
+    notes-retired (retired held a.accused a.ring) ended m ∙ under-retired held a (keys.Note m) tt ∙ fin.get-remove key_cmp_total held (key_of_accusation a) (keys.Note m)
+
+retired-before : (held : Held) (ended : List AccBody) (m ring : ℕ) → contains_key (retired_all held ended) (accused_on m ring) ≡ true → contains_key held (accused_on m ring) ≡ true
+retired-before held [] m ring h = h
+retired-before held (a ∷ ended) m ring h =
+    let k : RecordKey = accused_on m ring in
+    let was = retired-before (retired held a.accused a.ring) ended m ring h in
+    held-before held (a ∷ []) k (sym (ap is_some (under-retired held a k tt)) ∙ was)
+
+notes-ended_all : (heal : Option Heal) (held : Held) (ended : List AccBody) (m : ℕ) → held_under (ended_all heal held ended) (keys.Note m) ≡ held_under held (keys.Note m)
+notes-ended_all None held ended m = notes-without held ended m
+notes-ended_all (Some heal) held ended m = notes-retired held ended m
+
+ended-before : (heal : Option Heal) (held : Held) (ended : List AccBody) (m ring : ℕ) → contains_key (ended_all heal held ended) (accused_on m ring) ≡ true → contains_key held (accused_on m ring) ≡ true
+ended-before None held ended m ring h = held-before held ended (accused_on m ring) h
+ended-before (Some heal) held ended m ring h = retired-before held ended m ring h
+
+beside-ended : (heal : Option Heal) (held : Held) (ended fell : List AccBody) → AreNoted held → IsBeside held (without_all (ended_all heal held ended) fell)
+beside-ended heal held ended fell h = record {
+  notes = λ m. notes-without (ended_all heal held ended) fell m ∙ notes-ended_all heal held ended m;
+  accused = λ m ring is. h.accused m ring (ended-before heal held ended m ring (held-before (ended_all heal held ended) fell (accused_on m ring) is));
+}
+
+beside-unremoved : (held : Held) (n : ℕ) → AreNoted held → IsBeside held (fin.remove held (keys.Removal n))
+beside-unremoved held n h = record {
+  notes = λ m. under-other held n None (keys.Note m) tt;
+  accused = λ m ring is. h.accused m ring (sym (ap is_some (under-other held n None (accused_on m ring) tt)) ∙ is);
 }
 
 -- a note more
@@ -143,10 +190,12 @@ beside-step g e life next r held later steps other b h = record {
   noted = noted-beside held later b h.noted;
 }
 
--- what a step ends is held no more
-pub notes-ended : (g : Group) (e : Event) (life next : Life) (r : Report) (held later : Held) → Steps g e life next r → ((m : ℕ) → IsNotOwn m e) → later ≡ without_all (without_all held r.expired) r.fell → HoldsNotes life held → HoldsNotes next later
-notes-ended g e life next r held later steps other is h =
-    subst (HoldsNotes next) (sym is) (beside-step g e life next r held (without_all (without_all held r.expired) r.fell) steps other (beside-without held r.expired r.fell h.noted) h)
+-- what a step ends is kept no more
+pub notes-ended : (heal : Option Heal) (g : Group) (e : Event) (life next : Life) (r : Report) (held later : Held) → Steps g e life next r → ((m : ℕ) → IsNotOwn m e)
+    → later ≡ without_all (ended_all heal held r.expired) r.fell → HoldsNotes life held → HoldsNotes next later
+notes-ended heal g e life next r held later steps other is h =
+    let rest : Held = without_all (ended_all heal held r.expired) r.fell in
+    subst (HoldsNotes next) (sym is) (beside-step g e life next r held rest steps other (beside-ended heal held r.expired r.fell h.noted) h)
 
 -- a certificate is accepted
 pub notes-certificate : (g : Group) (e : Event) (life next : Life) (r : Report) (held later : Held) (x : CheckedRecord) (m : ℕ) → Steps g e life next r → ((m : ℕ) → IsNotOwn m e) → key_of x.rec.body ≡ keys.Certificate m
@@ -164,24 +213,31 @@ notes-accusation g e life next r held later x a steps other body some is h =
     subst (HoldsNotes next) (sym (is ∙ ap (λ b. fin.insert held (key_of b) x) body)) (beside-step g e life next r held put steps other (beside-accusation held a x noted h.noted) h)
 
 -- a note is accepted, or refused
-pub notes-note : (g : Group) (n : NoteBody) (life next : Life) (r : Report) (held between later : Held) (x : CheckedRecord) → Steps g (Notes n) life next r → x.rec.body ≡ Note n → 0 < n.epoch
-    → between ≡ without_all (without_all held r.expired) r.fell → later ≡ fin.insert between (key_of x.rec.body) x → HoldsNotes life held → HoldsNotes next later
-notes-note g n life next r held between later x steps body positive ends is h =
-    let rest : Held = without_all (without_all held r.expired) r.fell in
-    let put : Held = fin.insert rest (keys.Note n.member) x in
-    let b : IsBeside held rest = beside-without held r.expired r.fell h.noted in
+pub notes-note : (heal : Option Heal) (g : Group) (n : NoteBody) (life next : Life) (r : Report) (held between left later : Held) (x : CheckedRecord) → Steps g (Notes n) life next r
+    → x.rec.body ≡ Note n → 0 < n.epoch → between ≡ without_all (ended_all heal held r.expired) r.fell → left ≡ fin.remove between (keys.Removal n.member)
+    → later ≡ fin.insert left (key_of x.rec.body) x → HoldsNotes life held → HoldsNotes next later
+notes-note heal g n life next r held between left later x steps body positive ends cleared is h =
+    let rest : Held = without_all (ended_all heal held r.expired) r.fell in
+    let clear : Held = fin.remove rest (keys.Removal n.member) in
+    let put : Held = fin.insert clear (keys.Note n.member) x in
+    let b1 : IsBeside held rest = beside-ended heal held r.expired r.fell h.noted in
+    let noted1 : AreNoted rest = noted-beside held rest b1 h.noted in
+    let b2 : IsBeside rest clear = beside-unremoved rest n.member noted1 in
     let all : HoldsNotes next put =
     record {
       state = (step g h.state (Notes n)).state;
       holds = steps.holds h.state h.holds;
       newest_held = λ m some.
           elim (cases_Bool (eqb n.member m)) [
-            | inl same ↦ subst (λ k. has_note put k ≡ true) (eqb-true n.member m same) (has-note_here rest n x body)
-            | inr apart ↦ has-note_more rest n x m body (has-beside held rest m b (h.newest_held m (sym (ap is_some (step-same g m h.state (Notes n) apart).note) ∙ some)))
+            | inl same ↦ subst (λ k. has_note put k ≡ true) (eqb-true n.member m same) (has-note_here clear n x body)
+            | inr apart ↦
+                let was = h.newest_held m (sym (ap is_some (step-same g m h.state (Notes n) apart).note) ∙ some) in
+                has-note_more clear n x m body (has-beside rest clear m b2 (has-beside held rest m b1 was))
           ];
-      noted = noted-note_more rest n x body positive (noted-beside held rest b h.noted);
+      noted = noted-note_more clear n x body positive (noted-beside rest clear b2 noted1);
     } in
-    subst (HoldsNotes next) (sym (is ∙ ap (λ y. fin.insert between (key_of y) x) body ∙ ap (λ z. fin.insert z (keys.Note n.member) x) ends)) all
+    subst (HoldsNotes next)
+    (sym (is ∙ ap (λ y. fin.insert left (key_of y) x) body ∙ ap (λ z. fin.insert z (keys.Note n.member) x) (cleared ∙ ap (λ z. fin.remove z (keys.Removal n.member)) ends))) all
 
 -- as a life opens
 pub notes-none : (life : Life) (held : Held) → Holds life (opening []) → held ≡ fin.empty → HoldsNotes life held

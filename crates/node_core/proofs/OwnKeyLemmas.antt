@@ -1,6 +1,7 @@
 -- What is signed by a key verifies under its public half, also in the setting of a node.
-use Rattle.std.proofs.Common.{◌≡◌, ◌<◌, ℕ, true, List}
+use Rattle.std.proofs.Common.{◌≡◌, ◌<◌, ℕ, true, List, Option}
 use Rattle.ff_ids.specs.declared.Group.{Group}
+use Rattle.ff_ids.specs.Heals.{Heal}
 use Rattle.lms_tree.specs.declared.key.PublicKey.{PublicKey}
 use Rattle.lms_tree.specs.declared.secret.Secret.{Secret}
 use Rattle.lms_tree.specs.Lms.{public_of}
@@ -24,8 +25,8 @@ signatures-verify : (key : KeySecret) (index : ℕ) (message : List ℕ) → IsK
 signatures-verify (Lms secret) index message is within = signature-verifies secret index message within
 signatures-verify (Hss pair) index message is within = pair-verifies pair index message within (secret-profile (top_secret pair) is.in_profile)
 
-pub own-verify : (group : Group) (me : ℕ) (authority : PublicKey) (key : KeySecret) → IsKey (public_key key) → OwnSignaturesVerify (setting_of group me authority key) (public_key key)
+pub own-verify : (group : Group) (heal : Option Heal) (me : ℕ) (authority : PublicKey) (key : KeySecret) → IsKey (public_key key) → OwnSignaturesVerify (setting_of group heal me authority key) (public_key key)
 unfolding setting_of
-own-verify group me authority key is index body within =
+own-verify group heal me authority key is index body within =
     let message : List ℕ = signed_bytes group.tag group.t body in
     good-verdict (public_key key) message (signature_of key index message) (signatures-verify key index message is within)

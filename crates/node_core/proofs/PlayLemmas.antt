@@ -14,6 +14,7 @@ use Rattle.ff_ids.specs.declared.RingNo.{RingNo}
 use Rattle.ring_order.specs.Hashed.{hashed_places}
 use Rattle.node_core.proofs.TellingLemmas.{front-refl, front-trans, nil-right, map-append}
 use Rattle.ff_ids.specs.declared.Group.{Group}
+use Rattle.ff_ids.specs.Heals.{Heal}
 use Rattle.ff_ids.specs.declared.NoteBody.{NoteBody}
 use Rattle.ff_ids.specs.declared.AccBody.{AccBody}
 use Rattle.ff_ids.specs.declared.Fault.{Fault}
@@ -33,11 +34,11 @@ use Rattle.records.specs.declared.Body.TheVariants.{Certificate, Note, Accusatio
 use Rattle.records.specs.declared.Record.{Record}
 use Rattle.records.specs.Signing.{CheckedRecord}
 use Rattle.validate.specs.Certified.{Certificates, certificate_of as kept_certificate}
-use Rattle.record_set.specs.Held.{Held, key_cmp, key_of, held_under}
+use Rattle.record_set.specs.Held.{Held, key_cmp, key_of, held_under, with_option, retired}
 use Rattle.record_set.proofs.KeyLemmas.{key_cmp_total}
 use Rattle.detector.specs.Kept.{StandsFor}
 use Rattle.journal.specs.declared.event.Event as journal
-use Rattle.node_rules.specs.Nodes.{Setting, Node, Holding, state_of, event_of, with_record, without, without_ended, key_of_accusation, certificate_in, certificate_of}
+use Rattle.node_rules.specs.Nodes.{Setting, Node, Holding, state_of, event_of, with_record, without, without_ended, moved, retires, without_removal, with_news, key_of_accusation, certificate_in, certificate_of}
 use Rattle.node_rules.specs.Calls.{Call, tells, lives, takes, told_of, sends, sends_to_all, spends, signs, signs_and_sends, own_record, wants, stops, is_used_up}
 use Rattle.node_core.specs.Signatures.{with_stored, next_own}
 use Rattle.datagram.specs.declared.Datagram.TheVariants as kinds
@@ -58,11 +59,13 @@ use Rattle.ff_ids.specs.Masks.{ring_count}
 use Rattle.ff_ids.proofs.MaskLemmas.{range_with_len-push}
 use Rattle.std.specs.List.{list_any, range_with_len}
 use Rattle.node_rules.proofs.Small.{state_of-lives}
-use Rattle.node_rules.proofs.OwnKey.{ended-certificate}
+use Rattle.node_rules.proofs.OwnKey.{ended-certificate, removal-certificate}
+use Rattle.node_rules.proofs.Retiring.{retires-once}
 use Rattle.node_core.specs.Told.{Tellings, Adds, with_event, with_report, with_sent}
-use Rattle.node_core.specs.Records.{without_all}
+use Rattle.node_core.specs.Records.{without_all, retired_all, ended_all}
+use Rattle.node_core.specs.News.{keeps, heard_as_news, fresh_with, with_fresh}
 use Rattle.node_core.specs.Playing.{Kept, HoldsRecords, setting_of, IsNode, IsAt, IsBehind, Plays, Stops, Extends, Grows, with_known}
-use Rattle.node_core.proofs.ExtendLemmas.{extends-tells, extends-lives, extends-takes, extends-sends, extends-signs_and_sends, extends-wants}
+use Rattle.node_core.proofs.ExtendLemmas.{extends-tells, extends-lives, extends-keeps, extends-takes, extends-sends, extends-signs_and_sends, extends-wants}
 use Rattle.node_core.proofs.DueLemmas.{behind-extends, behind-same, behind-due, from-fine, plays-refused}
 
 -- ---- what is held
@@ -89,20 +92,85 @@ fold-map-append : (held : Holding) (xs ys : List AccBody) → fold without held 
 fold-map-append held [] ys = refl
 fold-map-append held (x ∷ xs) ys = fold-map-append (without held (key_of_accusation x)) xs ys
 
-pub holds-ended : (set : Held) (held : Holding) (r : Report) → HoldsRecords set held → HoldsRecords (without_all (without_all set r.expired) r.fell) (without_ended r held)
-holds-ended set held r h =
+-- a removal takes the place of what its key held
+retired-under : (set : Held) (m : ℕ) (ring : RingNo) (q : RecordKey) (o : Option CheckedRecord)
+    → rec_of (fin.get (with_option (fin.remove set (keys.Accusation m ring)) (keys.Removal m) o) q)
+    ≡ cond (eq_by_cmp key_cmp q (keys.Removal m)) (rec_of o)
+    (cond (eq_by_cmp key_cmp q (keys.Accusation m ring)) None (rec_of (held_under set q)))
+retired-under set m ring q None =
+    let left : Held = fin.remove set (keys.Accusation m ring) in
+    ap rec_of (fin.get-remove key_cmp_total left (keys.Removal m) q)
+    ∙ cond-map (eq_by_cmp key_cmp q (keys.Removal m)) None (held_under left q)
+    ∙ ap (λ x. cond (eq_by_cmp key_cmp q (keys.Removal m)) None x)
+    (ap rec_of (fin.get-remove key_cmp_total set (keys.Accusation m ring) q) ∙ cond-map (eq_by_cmp key_cmp q (keys.Accusation m ring)) None (held_under set q))
+retired-under set m ring q (Some c) =
+    let left : Held = fin.remove set (keys.Accusation m ring) in
+    ap rec_of (fin.get-insert key_cmp_total left (keys.Removal m) c q)
+    ∙ cond-map (eq_by_cmp key_cmp q (keys.Removal m)) (Some c) (held_under left q)
+    ∙ ap (λ x. cond (eq_by_cmp key_cmp q (keys.Removal m)) (Some c.rec) x)
+    (ap rec_of (fin.get-remove key_cmp_total set (keys.Accusation m ring) q) ∙ cond-map (eq_by_cmp key_cmp q (keys.Accusation m ring)) None (held_under set q))
+
+apart-keys : (m : ℕ) (ring : RingNo) (x y : Option Record) (q : RecordKey)
+    → cond (eq_by_cmp key_cmp q (keys.Removal m)) x (cond (eq_by_cmp key_cmp q (keys.Accusation m ring)) None y)
+    ≡ cond (eq_by_cmp key_cmp q (keys.Accusation m ring)) None (cond (eq_by_cmp key_cmp q (keys.Removal m)) x y)
+apart-keys m ring x y (keys.Certificate n) = refl
+apart-keys m ring x y (keys.Note n) = refl
+apart-keys m ring x y (keys.Accusation n other) = refl
+apart-keys m ring x y (keys.Removal n) = refl
+
+holds-moved : (set : Held) (held : Holding) (a : AccBody) → HoldsRecords set held
+    → HoldsRecords (retired set a.accused a.ring) (moved held a)
+holds-moved set held a h = λ q.
+    let here : RecordKey = key_of_accusation a in
+    retired-under set a.accused a.ring q (held_under set here)
+    ∙ ap
+    (λ x. cond (eq_by_cmp key_cmp q (keys.Removal a.accused)) x (cond (eq_by_cmp key_cmp q here) None (rec_of (held_under set q))))
+    (h here)
+    ∙ ap (λ y. cond (eq_by_cmp key_cmp q (keys.Removal a.accused)) (held here) (cond (eq_by_cmp key_cmp q here) None y)) (h q)
+    ∙ apart-keys a.accused a.ring (held here) (held q) q
+
+holds-moved_all : (set : Held) (held : Holding) (ended : List AccBody) → HoldsRecords set held
+    → HoldsRecords (retired_all set ended) (fold moved held ended)
+holds-moved_all set held [] h = h
+holds-moved_all set held (a ∷ ended) h =
+    holds-moved_all (retired set a.accused a.ring) (moved held a) ended (holds-moved set held a h)
+
+pub holds-ended : (heal : Option Heal) (set : Held) (held : Holding) (r : Report) → HoldsRecords set held
+    → HoldsRecords (without_all (ended_all heal set r.expired) r.fell) (without_ended r (retires heal r held))
+holds-ended None set held r h =
     let two = holds-without (without_all set r.expired) (fold without held (map key_of_accusation r.expired)) r.fell (holds-without set held r.expired h) in
     λ q. two q ∙ ap (λ f. f q) (sym (fold-map-append held r.expired r.fell))
+holds-ended (Some heal) set held r h =
+    let two = holds-without (retired_all set r.expired) (fold moved held r.expired) r.fell (holds-moved_all set held r.expired h) in
+    λ q. two q ∙ sym (retires-once heal r held q)
+
+-- the records without the removal that the body ends
+abbrev pub unremoved : Body → Held → Held
+unremoved (Certificate c) set = set
+unremoved (Note n) set = fin.remove set (keys.Removal n.member)
+unremoved (Accusation a) set = set
+
+holds-unremoved : (b : Body) (set : Held) (held : Holding) → HoldsRecords set held
+    → HoldsRecords (unremoved b set) (without_removal b held)
+holds-unremoved (Certificate c) set held h = h
+holds-unremoved (Note n) set held h = holds-remove set held (keys.Removal n.member) h
+holds-unremoved (Accusation a) set held h = h
 
 -- ---- the setting
 
-pub setting-group : (s : Setting) (g : Group) (me : ℕ) (a : PublicKey) (k : KeySecret) → s ≡ setting_of g me a k → s.group ≡ g
+pub setting-group : (s : Setting) (g : Group) (heal : Option Heal) (me : ℕ) (a : PublicKey) (k : KeySecret)
+    → s ≡ setting_of g heal me a k → s.group ≡ g
 unfolding setting_of
-setting-group s g me a k e = ap (λ x. x.group) e
+setting-group s g heal me a k e = ap (λ x. x.group) e
 
-pub setting-me : (s : Setting) (g : Group) (me : ℕ) (a : PublicKey) (k : KeySecret) → s ≡ setting_of g me a k → s.me ≡ me
+pub setting-me : (s : Setting) (g : Group) (heal : Option Heal) (me : ℕ) (a : PublicKey) (k : KeySecret)
+    → s ≡ setting_of g heal me a k → s.me ≡ me
 unfolding setting_of
-setting-me s g me a k e = ap (λ x. x.me) e
+setting-me s g heal me a k e = ap (λ x. x.me) e
+
+pub setting-heal : (s : Setting) (v : Kept) (n : Node) → IsNode s v n → s.heal ≡ v.heal
+unfolding setting_of
+setting-heal s v n is = ap (λ x. x.heal) is.setting
 
 -- ---- an event of the life
 
@@ -182,11 +250,14 @@ join-steps g life next m places answer is ok stays =
 
 pub certificate-lives : (s : Setting) (e : Event) (c : Call) (m : ℕ) → certificate_of (lives s e c).node m ≡ certificate_of c.node m
 unfolding lives certificate_of
-certificate-lives s e c m = ap (λ o. option_and_then (λ r. certificate_in r.body) o) (ended-certificate (step s.group (state_of s c.node) e).report c.node.held m)
+certificate-lives s e c m =
+    ap (λ o. option_and_then (λ r. certificate_in r.body) o)
+    (ended-certificate s.heal (step s.group (state_of s c.node) e).report c.node.held m)
 
-held-lives : (s : Setting) (e : Event) (c : Call) (r : Report) → r ≡ (step s.group (state_of s c.node) e).report → without_ended r c.node.held ≡ (lives s e c).node.held
+held-lives : (s : Setting) (e : Event) (c : Call) (r : Report) → r ≡ (step s.group (state_of s c.node) e).report
+    → without_ended r (retires s.heal r c.node.held) ≡ (lives s e c).node.held
 unfolding lives
-held-lives s e c r is = ap (λ x. without_ended x c.node.held) is
+held-lives s e c r is = ap (λ x. without_ended x (retires s.heal x c.node.held)) is
 
 told-lives : (s : Setting) (e : Event) (c : Call) → (lives s e c).told ≡ c.told ++ told_of (step s.group (state_of s c.node) e).state.moment (step s.group (state_of s c.node) e).report
 unfolding lives
@@ -200,12 +271,20 @@ kept-lives : (s : Setting) (e : Event) (c : Call) → ((lives s e c).node.stored
 unfolding lives
 kept-lives s e c = (refl, refl)
 
+news-lives : (s : Setting) (e : Event) (c : Call) → (lives s e c).node.news ≡ c.node.news
+unfolding lives
+news-lives s e c = refl
+
+since-lives : (s : Setting) (e : Event) (c : Call) → (lives s e c).node.since ≡ c.node.since
+unfolding lives
+since-lives s e c = refl
+
 -- What a step reports is what the call reports of it.
 lives-told : (s : Setting) (es : List journal.Event) (os : List (ℕ × List ℕ)) (v : Kept) (c : Call) (e : Event) (life : Life) (r : Report)
     → IsAt s es os v c → Steps v.group e v.membership life r → v.telling.events ++ told_of life.moment r ≡ es ++ (lives s e c).told
 lives-told s es os v c e life r h steps =
     let n = h.is in
-    let g : s.group ≡ v.group = setting-group s v.group v.me v.authority v.signer.key n.setting in
+    let g : s.group ≡ v.group = setting-group s v.group v.heal v.me v.authority v.signer.key n.setting in
     let st : State = state_of s c.node in
     let next : Holds life (step s.group st e).state = subst (λ x. Holds life (step x st e).state) (sym g) (steps.holds st n.holds) in
     let reported : r ≡ (step s.group st e).report = steps.reports st n.holds ∙ ap (λ x. (step x st e).report) (sym g) in
@@ -215,18 +294,23 @@ lives-told s es os v c e life r h steps =
 
 -- The code makes this step, with what it reports.
 pub lives-at : (s : Setting) (es : List journal.Event) (os : List (ℕ × List ℕ)) (v : Kept) (c : Call) (e : Event) (life : Life) (records : Held) (t : Tellings) (r : Report)
-    → (v.telling.failed ≡ false → IsAt s es os v c) → Steps v.group e v.membership life r → records ≡ without_all (without_all v.records r.expired) r.fell → Adds (with_report life.moment r) v.telling t
+    → (v.telling.failed ≡ false → IsAt s es os v c) → Steps v.group e v.membership life r
+    → records ≡ without_all (ended_all v.heal v.records r.expired) r.fell → Adds (with_report life.moment r) v.telling t
     → t.failed ≡ false → IsAt s es os (record v { membership = life; records = records; telling = t }) (lives s e c)
 lives-at s es os v c e life records t r p steps kept told fine =
     let on = told.going fine in
     let h = p on.0 in
     let n = h.is in
-    let g : s.group ≡ v.group = setting-group s v.group v.me v.authority v.signer.key n.setting in
+    let g : s.group ≡ v.group = setting-group s v.group v.heal v.me v.authority v.signer.key n.setting in
     let st : State = state_of s c.node in
     let next : Holds life (step s.group st e).state = subst (λ x. Holds life (step x st e).state) (sym g) (steps.holds st n.holds) in
     let reported : r ≡ (step s.group st e).report = steps.reports st n.holds ∙ ap (λ x. (step x st e).report) (sym g) in
+    let left : HoldsRecords records (without_ended r (retires v.heal r c.node.held)) =
+    subst (λ x. HoldsRecords x (without_ended r (retires v.heal r c.node.held))) (sym kept)
+    (holds-ended v.heal v.records c.node.held r n.records) in
     let ended : HoldsRecords records (lives s e c).node.held =
-    subst (λ x. HoldsRecords records x) (held-lives s e c r reported) (subst (λ x. HoldsRecords x (without_ended r c.node.held)) (sym kept) (holds-ended v.records c.node.held r n.records)) in
+    subst (λ x. HoldsRecords records x) (held-lives s e c r reported)
+    (subst (λ h. HoldsRecords records (without_ended r (retires h r c.node.held))) (sym (setting-heal s v c.node n)) left) in
     record {
       is = record {
         setting = n.setting;
@@ -235,6 +319,8 @@ lives-at s es os v c e life records t r p steps kept told fine =
         records = ended;
         roster = λ m. n.roster m ∙ sym (certificate-lives s e c m);
         probes = subst (StandsFor v.detector) (sym (kept-lives s e c).1) n.probes;
+        news = n.news ∙ sym (news-lives s e c);
+        since = n.since ∙ sym (since-lives s e c);
       };
       told = ap (λ x. x.events) on.1 ∙ lives-told s es os v c e life r h steps;
       sent = ap (λ x. x.sent) on.1 ∙ h.sent ∙ ap (λ xs. os ++ xs) (sym (sent-lives s e c));
@@ -242,7 +328,8 @@ lives-at s es os v c e life records t r p steps kept told fine =
     }
 
 pub lives-plays : (s : Setting) (es : List journal.Event) (os : List (ℕ × List ℕ)) (v : Kept) (c : Call) (e : Event) (life : Life) (records : Held) (t : Tellings) (r : Report)
-    → Plays s es os v c → Steps v.group e v.membership life r → records ≡ without_all (without_all v.records r.expired) r.fell → Adds (with_report life.moment r) v.telling t
+    → Plays s es os v c → Steps v.group e v.membership life r
+    → records ≡ without_all (ended_all v.heal v.records r.expired) r.fell → Adds (with_report life.moment r) v.telling t
     → Plays s es os (record v { membership = life; records = records; telling = t }) (lives s e c)
 lives-plays s es os v c e life records t r p steps kept told =
     let w : Kept = record v { membership = life; records = records; telling = t } in
@@ -267,7 +354,7 @@ tells-plays s es os v c what moment t p now adds =
           let h = p.at on.0 in
           let n = h.is in
           record {
-            is = record { setting = n.setting; holds = n.holds; stored = n.stored; records = n.records; roster = n.roster; probes = n.probes };
+            is = record { setting = n.setting; holds = n.holds; stored = n.stored; records = n.records; roster = n.roster; probes = n.probes; news = n.news; since = n.since };
             told = ap (λ (x : Tellings). x.events) on.1 ∙ is h;
             sent = ap (λ (x : Tellings). x.sent) on.1 ∙ h.sent;
             before = adds.before ∙ h.before;
@@ -284,9 +371,30 @@ tells-plays s es os v c what moment t p now adds =
 abbrev pub holding : Record → Call → Call
 holding r c = record c { node = record c.node { held = with_record r c.node.held } }
 
-pub takes-is : (s : Setting) (r : Record) (b : Body) (c : Call) → r.body ≡ b → takes s r c ≡ holding r (lives s (event_of s b) c)
+-- and what its member was removed by is held no more
+abbrev pub ending : Body → Call → Call
+ending b c = record c { node = record c.node { held = without_removal b c.node.held } }
+
+keeps-is : (s : Setting) (r : Record) (b : Body) (c : Call) → r.body ≡ b
+    → keeps s r c ≡ holding r (ending b (lives s (event_of s b) c))
+keeps-is s r b c is = ap (λ x. holding r (ending x (lives s (event_of s x) c))) is
+
+taken-is : (s : Setting) (r : Record) (c : Call) → takes s r c ≡ heard_as_news s r.body (keeps s r c)
 unfolding takes
-takes-is s r b c is = ap (λ x. holding r (lives s (event_of s x) c)) is
+taken-is s r c = refl
+
+abbrev news_in : Option Heal → Body → Call → Call
+news_in heal b c = record c { node = record c.node { news = with_news heal b c.node.news } }
+
+no-news : (heal : Option Heal) (x : CertBody) (c : Call) → news_in heal (Certificate x) c ≡ c
+no-news None x c = refl
+no-news (Some heal) x c = refl
+
+pub takes-is : (s : Setting) (r : Record) (x : CertBody) (c : Call) → r.body ≡ Certificate x
+    → takes s r c ≡ holding r (lives s (event_of s (Certificate x)) c)
+takes-is s r x c is =
+    taken-is s r c ∙ ap (λ b. heard_as_news s b (keeps s r c)) is ∙ no-news s.heal x (keeps s r c)
+    ∙ keeps-is s r (Certificate x) c is
 
 note_key-apart : (m n : ℕ) → eq_by_cmp key_cmp (keys.Certificate m) (keys.Note n) ≡ false
 note_key-apart m n = refl
@@ -312,6 +420,35 @@ certificate-holding : (r : Record) (c : Call) (b : Body) (m : ℕ) → r.body �
 unfolding certificate_of
 certificate-holding r c b m is other = ap (λ o. option_and_then (λ x. certificate_in x.body) o) (other-with r c.node.held b m is other)
 
+-- What the body ends is held no more.
+state-ending : (s : Setting) (b : Body) (c : Call) → state_of s (ending b c).node ≡ state_of s c.node
+unfolding state_of
+state-ending s b c = refl
+
+certificate-ending : (b : Body) (c : Call) (m : ℕ) → certificate_of (ending b c).node m ≡ certificate_of c.node m
+unfolding certificate_of
+certificate-ending b c m = ap (λ o. option_and_then (λ x. certificate_in x.body) o) (removal-certificate b c.node.held m)
+
+ending-at : (s : Setting) (es : List journal.Event) (os : List (ℕ × List ℕ)) (v : Kept) (c : Call) (b : Body) → IsAt s es os v c
+    → IsAt s es os (record v { records = unremoved b v.records }) (ending b c)
+ending-at s es os v c b h =
+    let n = h.is in
+    record {
+      is = record {
+        setting = n.setting;
+        holds = subst (Holds v.membership) (sym (state-ending s b c)) n.holds;
+        stored = n.stored;
+        records = holds-unremoved b v.records c.node.held n.records;
+        roster = λ m. n.roster m ∙ sym (certificate-ending b c m);
+        probes = n.probes;
+        news = n.news;
+        since = n.since;
+      };
+      told = h.told;
+      sent = h.sent;
+      before = h.before;
+    }
+
 -- a note or an accusation is held
 pub holding-at : (s : Setting) (es : List journal.Event) (os : List (ℕ × List ℕ)) (v : Kept) (c : Call) (checked : CheckedRecord) (b : Body) (records : Held)
     → checked.rec.body ≡ b → IsNoCertificate b → records ≡ fin.insert v.records (key_of checked.rec.body) checked → IsAt s es os v c → IsAt s es os (record v { records = records }) (holding checked.rec c)
@@ -325,31 +462,105 @@ holding-at s es os v c checked b records is other kept h =
         records = subst (λ x. HoldsRecords x (with_record checked.rec c.node.held)) (sym kept) (holds-insert v.records c.node.held checked n.records);
         roster = λ m. n.roster m ∙ sym (certificate-holding checked.rec c b m is other);
         probes = n.probes;
+        news = n.news;
+        since = n.since;
       };
       told = h.told;
       sent = h.sent;
       before = h.before;
     }
 
-pub takes-at : (s : Setting) (es : List journal.Event) (os : List (ℕ × List ℕ)) (v : Kept) (c : Call) (checked : CheckedRecord) (b : Body) (records : Held)
-    → checked.rec.body ≡ b → IsNoCertificate b → records ≡ fin.insert v.records (key_of checked.rec.body) checked → IsAt s es os v (lives s (event_of s b) c) → IsAt s es os (record v { records = records }) (takes s checked.rec c)
-takes-at s es os v c checked b records is other kept h =
-    subst (IsAt s es os (record v { records = records })) (sym (takes-is s checked.rec b c is)) (holding-at s es os v (lives s (event_of s b) c) checked b records is other kept h)
+pub keeps-at : (s : Setting) (es : List journal.Event) (os : List (ℕ × List ℕ)) (v : Kept) (c : Call) (checked : CheckedRecord)
+    (b : Body) (records : Held)
+    → checked.rec.body ≡ b → IsNoCertificate b → records ≡ fin.insert (unremoved b v.records) (key_of checked.rec.body) checked
+    → IsAt s es os v (lives s (event_of s b) c) → IsAt s es os (record v { records = records }) (keeps s checked.rec c)
+keeps-at s es os v c checked b records is other kept h =
+    let c1 : Call = lives s (event_of s b) c in
+    subst (IsAt s es os (record v { records = records })) (sym (keeps-is s checked.rec b c is))
+    (holding-at s es os (record v { records = unremoved b v.records }) (ending b c1) checked b records is other kept (ending-at s es os v c1 b h))
 
 -- a note is held
-pub takes-plays : (s : Setting) (es : List journal.Event) (os : List (ℕ × List ℕ)) (v : Kept) (c : Call) (checked : CheckedRecord) (b : Body) (records : Held)
-    → checked.rec.body ≡ b → IsNoCertificate b → records ≡ fin.insert v.records (key_of checked.rec.body) checked → Plays s es os v (lives s (event_of s b) c) → Plays s es os (record v { records = records }) (takes s checked.rec c)
-takes-plays s es os v c checked b records is other kept p = record {
-  at = λ fine. takes-at s es os v c checked b records is other kept (p.at fine);
-  due = subst (IsBehind es os (record v { records = records })) (sym (takes-is s checked.rec b c is)) (record { told = p.due.told; sent = p.due.sent });
+pub keeps-plays : (s : Setting) (es : List journal.Event) (os : List (ℕ × List ℕ)) (v : Kept) (c : Call) (checked : CheckedRecord)
+    (b : Body) (records : Held)
+    → checked.rec.body ≡ b → IsNoCertificate b → records ≡ fin.insert (unremoved b v.records) (key_of checked.rec.body) checked
+    → Plays s es os v (lives s (event_of s b) c) → Plays s es os (record v { records = records }) (keeps s checked.rec c)
+keeps-plays s es os v c checked b records is other kept p = record {
+  at = λ fine. keeps-at s es os v c checked b records is other kept (p.at fine);
+  due = subst (IsBehind es os (record v { records = records })) (sym (keeps-is s checked.rec b c is)) (record { told = p.due.told; sent = p.due.sent });
 }
 
 -- a record is accepted, which reports nothing
-pub takes-quietly : (s : Setting) (es : List journal.Event) (os : List (ℕ × List ℕ)) (v w : Kept) (c : Call) (r : Record) → w.telling ≡ v.telling → Plays s es os v c → (v.telling.failed ≡ false → IsAt s es os w (takes s r c)) → Plays s es os w (takes s r c)
-takes-quietly s es os v w c r same p at = record {
+quietly : (s : Setting) (es : List journal.Event) (os : List (ℕ × List ℕ)) (v w : Kept) (c d : Call) → Extends c d
+    → w.telling ≡ v.telling → Plays s es os v c → (v.telling.failed ≡ false → IsAt s es os w d) → Plays s es os w d
+quietly s es os v w c d further same p at = record {
   at = λ fine. at (sym (ap (λ (t : Tellings). t.failed) same) ∙ fine);
-  due = behind-extends es os w c (takes s r c) (behind-same es os v w c (ap (λ (t : Tellings). t.events) same) (ap (λ (t : Tellings). t.sent) same) p.due) (extends-takes s r c);
+  due = behind-extends es os w c d (behind-same es os v w c (ap (λ (t : Tellings). t.events) same) (ap (λ (t : Tellings). t.sent) same) p.due) further;
 }
+
+pub takes-quietly : (s : Setting) (es : List journal.Event) (os : List (ℕ × List ℕ)) (v w : Kept) (c : Call) (r : Record)
+    → w.telling ≡ v.telling → Plays s es os v c → (v.telling.failed ≡ false → IsAt s es os w (takes s r c))
+    → Plays s es os w (takes s r c)
+takes-quietly s es os v w c r same p at = quietly s es os v w c (takes s r c) (extends-takes s r c) same p at
+
+pub keeps-quietly : (s : Setting) (es : List journal.Event) (os : List (ℕ × List ℕ)) (v w : Kept) (c : Call) (r : Record)
+    → w.telling ≡ v.telling → Plays s es os v c → (v.telling.failed ≡ false → IsAt s es os w (keeps s r c))
+    → Plays s es os w (keeps s r c)
+keeps-quietly s es os v w c r same p at = quietly s es os v w c (keeps s r c) (extends-keeps s r c) same p at
+
+-- ---- news
+
+state-fresh : (s : Setting) (k : RecordKey) (c : Call) → state_of s (with_fresh s k c).node ≡ state_of s c.node
+unfolding state_of
+state-fresh s k c = refl
+
+certificate-fresh : (s : Setting) (k : RecordKey) (c : Call) (m : ℕ)
+    → certificate_of (with_fresh s k c).node m ≡ certificate_of c.node m
+unfolding certificate_of
+certificate-fresh s k c m = refl
+
+-- the key is news, with the option
+pub fresh-plays : (s : Setting) (es : List journal.Event) (os : List (ℕ × List ℕ)) (v : Kept) (c : Call) (k : RecordKey) (news : List RecordKey)
+    → news ≡ fresh_with v.heal k v.news → Plays s es os v c → Plays s es os (record v { news = news }) (with_fresh s k c)
+fresh-plays s es os v c k news is p = record {
+  at = λ fine.
+      let h = p.at fine in
+      let n = h.is in
+      record {
+        is = record {
+          setting = n.setting;
+          holds = subst (Holds v.membership) (sym (state-fresh s k c)) n.holds;
+          stored = n.stored;
+          records = n.records;
+          roster = λ m. n.roster m ∙ sym (certificate-fresh s k c m);
+          probes = n.probes;
+          news = is ∙ ap (λ (h : Option Heal). fresh_with h k v.news) (sym (setting-heal s v c.node n)) ∙ ap (λ (ks : List RecordKey). fresh_with s.heal k ks) n.news;
+          since = n.since;
+        };
+        told = h.told;
+        sent = h.sent;
+        before = h.before;
+      };
+  due = record { told = p.due.told; sent = p.due.sent };
+}
+
+pub extends-fresh : (s : Setting) (k : RecordKey) (c : Call) → Extends c (with_fresh s k c)
+extends-fresh s k c = record { told = front-refl c.told; sent = front-refl c.sent }
+
+news-fresh : (heal : Option Heal) (b : Body) (news : List RecordKey) → IsNoCertificate b
+    → with_news heal b news ≡ fresh_with heal (key_of b) news
+news-fresh None b news other = refl
+news-fresh (Some heal) (Certificate x) news other = absurd other
+news-fresh (Some heal) (Note n) news other = refl
+news-fresh (Some heal) (Accusation a) news other = refl
+
+-- a note or an accusation is accepted: it is held, and news
+pub takes-fresh : (s : Setting) (r : Record) (b : Body) (k : RecordKey) (c : Call) → r.body ≡ b → IsNoCertificate b → k ≡ key_of b
+    → takes s r c ≡ with_fresh s k (keeps s r c)
+takes-fresh s r b k c is other same =
+    let c1 : Call = keeps s r c in
+    let with : List RecordKey → Call = λ ks. record c1 { node = record c1.node { news = ks } } in
+    taken-is s r c ∙ ap (λ x. with (with_news s.heal x c1.node.news)) is
+    ∙ ap with (news-fresh s.heal b c1.node.news other ∙ ap (λ x. fresh_with s.heal x c1.node.news) (sym same))
 
 adds-nothing : (moment : ℕ) (t : Tellings) → Adds (with_report moment nothing) t t
 adds-nothing moment t =
@@ -363,10 +574,16 @@ adds-nothing moment t =
       before = refl;
     }
 
+ended-none : (heal : Option Heal) (set : Held) → set ≡ without_all (ended_all heal set []) []
+ended-none None set = refl
+ended-none (Some heal) set = refl
+
 -- an event that reports nothing
 pub quiet-at : (s : Setting) (es : List journal.Event) (os : List (ℕ × List ℕ)) (v : Kept) (c : Call) (e : Event) (life : Life)
     → (v.telling.failed ≡ false → IsAt s es os v c) → Steps v.group e v.membership life nothing → v.telling.failed ≡ false → IsAt s es os (record v { membership = life }) (lives s e c)
-quiet-at s es os v c e life p steps fine = lives-at s es os v c e life v.records v.telling nothing p steps refl (adds-nothing life.moment v.telling) fine
+quiet-at s es os v c e life p steps fine =
+    lives-at s es os v c e life v.records v.telling nothing p steps (ended-none v.heal v.records)
+    (adds-nothing life.moment v.telling) fine
 
 -- ---- a certificate
 
@@ -398,12 +615,14 @@ certified-at s es os v c checked x records roster is kept listed h =
         records = subst (λ y. HoldsRecords y (with_record checked.rec c1.node.held)) (sym kept) (holds-insert v.records c1.node.held checked n.records);
         roster = λ m. ap (λ y. kept_certificate y m) listed ∙ fin.get-insert nat_cmp_total v.roster x.member x m ∙ ap (λ o. cond (eq_by_cmp nat_cmp m x.member) (Some x) o) (n.roster m) ∙ sym (certificate-held checked.rec c1 x m is);
         probes = n.probes;
+        news = n.news;
+        since = n.since;
       };
       told = h.told;
       sent = h.sent;
       before = h.before;
     } in
-    subst (IsAt s es os (record v { records = records; roster = roster })) (sym (takes-is s checked.rec (Certificate x) c is)) at
+    subst (IsAt s es os (record v { records = records; roster = roster })) (sym (takes-is s checked.rec x c is)) at
 
 pub places-of : (s : Setting) (v : Kept) (c : Call) (m : ℕ) → IsNode s v c.node → s.places m ≡ hashed_places v.group.tag v.group.t m
 unfolding setting_of
@@ -459,7 +678,8 @@ sends-plays s es os v c d to moment bytes t p spelled now adds =
           let h = p.at on.0 in
           let n = h.is in
           let due = is-sent s es os v c d to moment bytes h spelled now in
-          let is : IsNode s w c.node = record { setting = n.setting; holds = n.holds; stored = n.stored; records = n.records; roster = n.roster; probes = n.probes } in
+          let is : IsNode s w c.node =
+          record { setting = n.setting; holds = n.holds; stored = n.stored; records = n.records; roster = n.roster; probes = n.probes; news = n.news; since = n.since } in
           record {
             is = subst (IsNode s w) (sym (node-sends s d c to)) is;
             told = ap (λ (x : Tellings). x.events) on.1 ∙ due.told;
@@ -541,20 +761,24 @@ grows-trans a b c p q =
       before = q.before ∙ p.before;
       ended = q.ended ∙ p.ended;
       group = q.group ∙ p.group;
+      heal = q.heal ∙ p.heal;
       me = q.me ∙ p.me;
       roster = λ m x is. q.roster m x (p.roster m x is);
     }
 
 -- whatever the signer was
 pub grows-signer : (a b : Kept) (signer : SignerState) → Grows (record a { signer = signer }) b → Grows a b
-grows-signer a b signer h = record { going = h.going; stuck = h.stuck; events = h.events; sent = h.sent; before = h.before; ended = h.ended; group = h.group; me = h.me; roster = h.roster }
+grows-signer a b signer h =
+    record { going = h.going; stuck = h.stuck; events = h.events; sent = h.sent; before = h.before; ended = h.ended; group = h.group; heal = h.heal; me = h.me; roster = h.roster }
 
 -- what adds to what is reported grows it
 pub grows-adds : (v : Kept) (life next : Life) (held later : Held) (f : Tellings → Tellings) (a b : Tellings) → Adds f a b → Grows (with_known v life held a) (with_known v next later b)
-grows-adds v life next held later f a b h = record { going = λ fine. (h.going fine).0; stuck = h.stuck; events = h.events; sent = h.sent; before = h.before; ended = refl; group = refl; me = refl; roster = λ m x is. is }
+grows-adds v life next held later f a b h =
+    record { going = λ fine. (h.going fine).0; stuck = h.stuck; events = h.events; sent = h.sent; before = h.before; ended = refl; group = refl; heal = refl; me = refl; roster = λ m x is. is }
 
 pub grows-refl : (a : Kept) → Grows a a
-grows-refl a = record { going = λ ok. ok; stuck = λ failed. refl; events = front-refl a.telling.events; sent = front-refl a.telling.sent; before = refl; ended = refl; group = refl; me = refl; roster = λ m x is. is }
+grows-refl a =
+    record { going = λ ok. ok; stuck = λ failed. refl; events = front-refl a.telling.events; sent = front-refl a.telling.sent; before = refl; ended = refl; group = refl; heal = refl; me = refl; roster = λ m x is. is }
 
 -- the list of all that are wanted is that of the addressees
 pub all-wanted : (s : Setting) (v : Kept) (n : Node) (also : Option ℕ) (listed : List (Option ℕ)) → IsNode s v n → v.membership.group ≡ v.group
@@ -563,8 +787,8 @@ pub all-wanted : (s : Setting) (v : Kept) (n : Node) (also : Option ℕ) (listed
 unfolding all_numbers
 all-wanted s v n also listed is same h =
     let st : State = state_of s n in
-    let g : s.group ≡ v.group = setting-group s v.group v.me v.authority v.signer.key is.setting in
-    let m : s.me ≡ v.me = setting-me s v.group v.me v.authority v.signer.key is.setting in
+    let g : s.group ≡ v.group = setting-group s v.group v.heal v.me v.authority v.signer.key is.setting in
+    let m : s.me ≡ v.me = setting-me s v.group v.heal v.me v.authority v.signer.key is.setting in
     let these : listed ≡ listed_on s.group s.me st also =
     h st is.holds ∙ ap (λ (x : Group). listed_on x v.me st also) (same ∙ sym g) ∙ ap (λ x. listed_on s.group x st also) (sym m) in
     ap (λ xs. wanted_of xs MEMBERS) these ∙ addressees-are s st also
@@ -586,13 +810,32 @@ sends-own s b also c = refl
 with-stored : (b : Body) (c d : Call) → Extends c d → Extends (with_stored b c) d
 with-stored b c d h = record { told = h.told; sent = h.sent }
 
+spent-plays : (s : Setting) (es : List journal.Event) (os : List (ℕ × List ℕ)) (c : Call) (b : Body) (v : Kept) (index : ℕ)
+    → index ≡ c.node.stored.next → Plays s es os v (tells s (told.Spent index b) (with_stored b c))
+    → Plays s es os v (spends s b c)
+spent-plays s es os c b v index at p =
+    subst (λ x. Plays s es os v x) (ap (λ k. tells s (told.Spent k b) (with_stored b c)) at ∙ sym (spends-is s b c)) p
+
+-- the own record is reported and kept
+pub own-kept : (s : Setting) (es : List journal.Event) (os : List (ℕ × List ℕ)) (c : Call) (b : Body) (v1 v2 : Kept) (index : ℕ)
+    (r : Record)
+    → index ≡ c.node.stored.next → r ≡ own_record s c.node b → Plays s es os v1 (tells s (told.Spent index b) (with_stored b c))
+    → ((x : Call) → Plays s es os v1 x → Plays s es os v2 (keeps s r x))
+    → Plays s es os v2 (keeps s (own_record s c.node b) (spends s b c))
+own-kept s es os c b v1 v2 index r at own p kept =
+    subst (λ x. Plays s es os v2 (keeps s x (spends s b c))) own (kept (spends s b c) (spent-plays s es os c b v1 index at p))
+
+pub signs-fresh : (s : Setting) (b : Body) (k : RecordKey) (c : Call) → IsNoCertificate b → k ≡ key_of b
+    → with_fresh s k (keeps s (own_record s c.node b) (spends s b c)) ≡ signs s b c
+signs-fresh s b k c other same = sym (signs-is s b c ∙ takes-fresh s (own_record s c.node b) b k (spends s b c) refl other same)
+
 -- the own record is reported and accepted
 pub kept-plays : (s : Setting) (es : List journal.Event) (os : List (ℕ × List ℕ)) (c : Call) (b : Body) (v1 v2 : Kept) (index : ℕ) (r : Record)
     → index ≡ c.node.stored.next → r ≡ own_record s c.node b → Plays s es os v1 (tells s (told.Spent index b) (with_stored b c))
     → ((x : Call) → Plays s es os v1 x → Plays s es os v2 (takes s r x)) → Plays s es os v2 (signs s b c)
 kept-plays s es os c b v1 v2 index r at own p taken =
-    let p1 : Plays s es os v1 (spends s b c) = subst (λ x. Plays s es os v1 x) (ap (λ k. tells s (told.Spent k b) (with_stored b c)) at ∙ sym (spends-is s b c)) p in
-    subst (λ x. Plays s es os v2 x) (ap (λ x. takes s x (spends s b c)) own ∙ sym (signs-is s b c)) (taken (spends s b c) p1)
+    subst (λ x. Plays s es os v2 x) (ap (λ x. takes s x (spends s b c)) own ∙ sym (signs-is s b c))
+    (taken (spends s b c) (spent-plays s es os c b v1 index at p))
 
 -- and sent, if memory sufficed for its bytes
 pub passed-on : (s : Setting) (es : List journal.Event) (os : List (ℕ × List ℕ)) (c : Call) (b : Body) (also : Option ℕ) (v0 v2 v3 : Kept) (r : Record) (Spelled : List ℕ → Type 0)
@@ -602,7 +845,7 @@ pub passed-on : (s : Setting) (es : List journal.Event) (os : List (ℕ × List 
 passed-on s es os c b also v0 v2 v3 r Spelled p grows own p2 sent spelled =
     from-fine s es os v0 v3 (with_stored b c) (signs_and_sends s b (addressees s also) c) p grows (with-stored b c (signs_and_sends s b (addressees s also) c) (extends-signs_and_sends s b (addressees s also) c)) (λ h.
     let n = h.is in
-    let me : v0.me ≡ s.me = sym (setting-me s v0.group v0.me v0.authority v0.signer.key n.setting) in
+    let me : v0.me ≡ s.me = sym (setting-me s v0.group v0.heal v0.me v0.authority v0.signer.key n.setting) in
     let d : Datagram = kinds.Records s.me (own_record s c.node b ∷ []) in
     let spelled2 : Spelled (datagram_bytes d) = subst Spelled (ap (λ m. datagram_bytes (kinds.Records m (r ∷ []))) me ∙ ap (λ x. datagram_bytes (kinds.Records s.me (x ∷ []))) own) spelled in
     subst (λ x. Plays s es os v3 x) (sym (sends-own s b also c)) (sent (signs s b c) d p2 spelled2))
@@ -617,12 +860,14 @@ stored-at s es os v c b signer p key state = record {
       let n = h.is in
       record {
         is = record {
-          setting = n.setting ∙ ap (setting_of v.group v.me v.authority) (sym key);
+          setting = n.setting ∙ ap (setting_of v.group v.heal v.me v.authority) (sym key);
           holds = n.holds;
           stored = state ∙ ap (λ x. stored_after x b) n.stored;
           records = n.records;
           roster = n.roster;
           probes = n.probes;
+          news = n.news;
+          since = n.since;
         };
         told = h.told;
         sent = h.sent;
@@ -673,12 +918,14 @@ signer-at s es os v c signer p key state = record {
       let n = h.is in
       record {
         is = record {
-          setting = n.setting ∙ ap (setting_of v.group v.me v.authority) (sym key);
+          setting = n.setting ∙ ap (setting_of v.group v.heal v.me v.authority) (sym key);
           holds = n.holds;
           stored = state ∙ n.stored;
           records = n.records;
           roster = n.roster;
           probes = n.probes;
+          news = n.news;
+          since = n.since;
         };
         told = h.told;
         sent = h.sent;
@@ -733,7 +980,7 @@ wants-refused s es os v v1 c b also p same = plays-refused s es os v v1 c (wants
 
 pub next-own-is : (s : Setting) (v : Kept) (n : Node) (mask : Mask) → IsNode s v n → next_note v.signer.state v.me mask ≡ next_own s n mask
 next-own-is s v n mask is =
-    let me : v.me ≡ s.me = sym (setting-me s v.group v.me v.authority v.signer.key is.setting) in
+    let me : v.me ≡ s.me = sym (setting-me s v.group v.heal v.me v.authority v.signer.key is.setting) in
     ap (λ (m : ℕ). next_note v.signer.state m mask) me ∙ ap (λ (x : Stored). next_note x s.me mask) is.stored
 
 -- no refusal changes the key or what the store keeps

@@ -65,7 +65,7 @@ apart a b e = grind (arith, nat_tests, e)
 
 other-number : (s : Setting) (r : Record) (x : CertBody) (c : Call) (m : ℕ) → r.body ≡ Certificate x → nat_eq m x.member ≡ false → certificate_of (takes s r c).node m ≡ certificate_of c.node m
 other-number s r x c m is other =
-    ap (λ y. certificate_of y.node m) (takes-is s r (Certificate x) c is) ∙ certificate-held r (lives s (Joins x.member (s.places x.member)) c) x m is ∙ ap (λ b. cond b (Some x) (certificate_of (lives s (Joins x.member (s.places x.member)) c).node m)) (apart m x.member other)
+    ap (λ y. certificate_of y.node m) (takes-is s r x c is) ∙ certificate-held r (lives s (Joins x.member (s.places x.member)) c) x m is ∙ ap (λ b. cond b (Some x) (certificate_of (lives s (Joins x.member (s.places x.member)) c).node m)) (apart m x.member other)
     ∙ certificate-lives s (Joins x.member (s.places x.member)) c m
 
 abbrev pub IsFree : Call → Record → Type 0

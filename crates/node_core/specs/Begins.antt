@@ -1,5 +1,5 @@
 -- A node whose first note is signed, and not yet accepted.
-use Rattle.std.specs.Prelude.{◌≡◌, ℕ, ◌<◌, ◌≤◌, All, Bool, true, false, not, nat_eq, List, [], ◌∷◌, ◌++◌, Result, Ok, Err}
+use Rattle.std.specs.Prelude.{◌≡◌, ℕ, ◌+◌, ◌<◌, ◌≤◌, All, Bool, true, false, not, nat_eq, Option, List, [], ◌∷◌, ◌++◌, Result, Ok, Err}
 use Rattle.ff_ids.specs.declared.TheConstants.{MAX_TOLERANCE}
 use Rattle.records.specs.declared.Body.TheVariants.{Note, Certificate}
 use Rattle.records.specs.declared.Record.{Record}
@@ -19,6 +19,7 @@ use Rattle.node_core.specs.declared.kit.Kit.{Kit}
 use Rattle.node_core.specs.declared.starting.Ready.{Ready}
 use Rattle.node_core.specs.declared.starting.Parts.{Parts}
 use Rattle.ff_ids.specs.declared.Group.{Group}
+use Rattle.ff_ids.specs.Heals.{Heal}
 use Rattle.lms_tree.specs.declared.key.PublicKey.{PublicKey}
 use Rattle.records.specs.declared.keys.Key.{Key}
 use Rattle.records.specs.declared.keys.Key.TheVariants as key_kinds
@@ -35,11 +36,12 @@ use Rattle.journal.specs.declared.event.Event as journal
 use Rattle.node_core.specs.Signatures.{with_stored}
 use Rattle.node_core.specs.Playing.{Kept, IsNode, setting_of}
 
--- What a node keeps whose parts these are.
-abbrev pub kept_in : Group → ℕ → PublicKey → SignerState → Parts → Tellings → Kept
-kept_in group me authority signer p told =
+-- What a node keeps whose parts these are, before its first note.
+abbrev pub kept_in : Group → Option Heal → ℕ → PublicKey → SignerState → Parts → Tellings → Kept
+kept_in group heal me authority signer p told =
     record {
       group = group;
+      heal = heal;
       me = me;
       authority = authority;
       signer = signer;
@@ -47,6 +49,8 @@ kept_in group me authority signer p told =
       roster = p.roll.roster;
       records = p.roll.records;
       detector = p.detector;
+      news = [];
+      since = signer.state.epoch + 1;
       telling = told;
       ended = false;
     }
@@ -59,8 +63,8 @@ pub record StandsOpened (s : Setting) (seed : List ℕ) (certificates : List Rec
 
 abbrev pub HasOpened : Group → List ℕ → List Record → Parts → Type 0
 HasOpened group seed certificates p =
-    (s : Setting) (me : ℕ) (authority : PublicKey) (signer : SignerState) → s ≡ setting_of group me authority signer.key
-    → StandsOpened s seed certificates signer.state (kept_in group me authority signer p)
+    (s : Setting) (heal : Option Heal) (me : ℕ) (authority : PublicKey) (signer : SignerState) → s ≡ setting_of group heal me authority signer.key
+    → StandsOpened s seed certificates signer.state (kept_in group heal me authority signer p)
 
 pub record AreOf (group : Group) (p : Parts) : Type 0 where
   pub membership : p.roll.membership.group ≡ group
@@ -71,6 +75,7 @@ abbrev pub kept_by : Ready → Tellings → Kept
 kept_by r told =
     record {
       group = r.group;
+      heal = r.heal;
       me = r.me;
       authority = r.authority;
       signer = r.signer;
@@ -78,6 +83,8 @@ kept_by r told =
       roster = r.roll.roster;
       records = r.roll.records;
       detector = r.detector;
+      news = r.news.items;
+      since = r.since;
       telling = told;
       ended = false;
     }

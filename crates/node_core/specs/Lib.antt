@@ -1,5 +1,7 @@
 pub mod Told
 pub mod Records
+pub mod Returning
+pub mod News
 pub mod Noted
 pub mod Playing
 pub mod Neighbours

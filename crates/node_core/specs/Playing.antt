@@ -5,6 +5,7 @@ use Rattle.std.specs.Result.{is_ok}
 use Rattle.ff_ids.specs.declared.TheConstants.{MAX_TOLERANCE}
 use Rattle.std.specs.FinMap.{get}
 use Rattle.ff_ids.specs.declared.Group.{Group}
+use Rattle.ff_ids.specs.Heals.{Heal}
 use Rattle.ff_ids.specs.declared.NoteBody.{NoteBody}
 use Rattle.ff_ids.specs.declared.summary.RecordKey.{RecordKey}
 use Rattle.ff_ids.specs.Masks.{note_mask}
@@ -30,6 +31,7 @@ use Rattle.node_core.specs.Noted.{HoldsNotes}
 -- What a node keeps.
 pub record Kept : Type 0 where
   pub group : Group
+  pub heal : Option Heal
   pub me : ℕ
   pub authority : PublicKey
   pub signer : SignerState
@@ -37,17 +39,20 @@ pub record Kept : Type 0 where
   pub roster : Certificates
   pub records : Held
   pub detector : Probing
+  pub news : List RecordKey
+  pub since : ℕ
   pub telling : Tellings
   pub ended : Bool
 
 -- What the node is opened with: hashed places, signatures of the key in the group, and their verdicts.
-unfoldable pub setting_of : Group → ℕ → PublicKey → KeySecret → Setting
-setting_of group me authority key =
+unfoldable pub setting_of : Group → Option Heal → ℕ → PublicKey → KeySecret → Setting
+setting_of group heal me authority key =
     record {
       group = group;
       me = me;
       authority = keys.Lms authority;
       indexes = index_count key;
+      heal = heal;
       places = hashed_places group.tag group.t;
       verifies = λ public r. is_ok (verdict_of public (signed_bytes group.tag group.t r.body) r.signature);
       signature = λ index body. signature_of key index (signed_bytes group.tag group.t body);
@@ -59,12 +64,14 @@ HoldsRecords set held = (k : RecordKey) → option_map (λ c. c.rec) (held_under
 
 -- What is kept stands for the node.
 pub record IsNode (s : Setting) (v : Kept) (n : Node) : Type 0 where
-  pub setting : s ≡ setting_of v.group v.me v.authority v.signer.key
+  pub setting : s ≡ setting_of v.group v.heal v.me v.authority v.signer.key
   pub holds : Holds v.membership (state_of s n)
   pub stored : v.signer.state ≡ n.stored
   pub records : HoldsRecords v.records n.held
   pub roster : (m : ℕ) → kept_certificate v.roster m ≡ certificate_of n m
   pub probes : StandsFor v.detector n.probes
+  pub news : v.news ≡ n.news
+  pub since : v.since ≡ n.since
 
 -- the same, but for what it knows of the members, and what was reported
 abbrev pub with_known : Kept → Life → Held → Tellings → Kept
@@ -104,6 +111,7 @@ pub record IsReady (group : Group) (me : ℕ) (membership : Life) (records : Hel
   pub some : 1 ≤ group.t
   pub few : group.t ≤ MAX_TOLERANCE
   pub period : 0 < group.period
+  pub timeout : 0 < group.timeout
   pub membership_group : membership.group ≡ group
   pub detector_group : detector.group ≡ group
   pub signer_group : signer.group ≡ group
@@ -132,5 +140,6 @@ pub record Grows (old new : Kept) : Type 0 where
   pub before : new.telling.before ≡ old.telling.before
   pub ended : new.ended ≡ old.ended
   pub group : new.group ≡ old.group
+  pub heal : new.heal ≡ old.heal
   pub me : new.me ≡ old.me
   pub roster : KeepsCertificates old.roster new.roster

@@ -4,7 +4,7 @@ use Rattle.std.specs.List.{slice_get}
 use Rattle.journal.specs.declared.event.Event as journal
 use Rattle.node_rules.specs.Nodes.{Setting, Node, state_of}
 use Rattle.node_rules.specs.Calls.{Call}
-use Rattle.node_rules.specs.Ticking.{accuses, accuses_all, due_tick, probed_at, probes_after, silent_at, ticked}
+use Rattle.node_rules.specs.Ticking.{accuses, accuses_all, due_tick, probes_after, silent_at, spread_at, spreads, ticked}
 use Rattle.node_core.specs.declared.NodeFault.{NodeFault}
 use Rattle.ports.specs.Disk.{Moment}
 use Rattle.ports.specs.MemoryDisk.{DiskState}
@@ -37,7 +37,7 @@ pub record Accused (old now : Kept) (older newer : List Moment) (disk disk_now :
 -- What a due tick brings behind the tick of the life, or the disk failed in an accusation.
 abbrev pub RunsDue : (Call → Type 0) → (Call → Call → Type 0) → Setting → List ℕ → List (ℕ × ℕ) → ℕ → Call → Result (Unit {0}) NodeFault → Type 0
 RunsDue P Q s silent pings round c (Ok done) = P (due_tick s silent pings round c)
-RunsDue P Q s silent pings round c (Err fault) = StopsAt Q (accusing s) silent (due_tick s silent pings round c) c
+RunsDue P Q s silent pings round c (Err fault) = StopsAt Q (accusing s) silent (due_tick s silent pings round c) (spreads s c)
 
 -- The probes of the life have seen the tick.
 abbrev pub seen : Setting → Call → Call
@@ -47,4 +47,4 @@ seen s c = record c { node = probes_after s c.node (state_of s c.node) }
 abbrev pub RunsTick : Type 0 → (Call → Type 0) → (Call → Call → Type 0) → Setting → Node → Result (Unit {0}) NodeFault → Type 0
 RunsTick Sufficed P Q s n (Ok done) = P (ticked s n)
 RunsTick Sufficed P Q s n (Err fault) =
-    (i : ℕ) × (m : ℕ) × ((Sufficed → slice_get (silent_at s n) i ≡ Some m) × Q (ticked s n) (accuses false s (accuses_all s (take i (silent_at s n)) (probed_at s n)) m))
+    (i : ℕ) × (m : ℕ) × ((Sufficed → slice_get (silent_at s n) i ≡ Some m) × Q (ticked s n) (accuses false s (accuses_all s (take i (silent_at s n)) (spread_at s n)) m))

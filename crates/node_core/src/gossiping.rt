@@ -1,12 +1,14 @@
 //! Pings and the summary of a due tick.
 
-ghost use Rattle.std.specs.Prelude.{◌≡◌, ℕ, ◌≤◌, ◌<◌, ◌++◌, List, IfOk, OnErr, is_some, filter, length, if◌then◌else◌, ◌∷◌, [], None, unwrap_or};
+ghost use Rattle.std.specs.Prelude.{◌≡◌, ℕ, ◌≤◌, ◌<◌, ◌++◌, List, IfOk, OnErr, IfSome, is_some, filter, length, if◌then◌else◌, ◌∷◌, [], None, unwrap_or};
 ghost use Rattle.std.specs.List.{slice_get, last_or};
+ghost use Rattle.std.specs.Option.{option_map};
+ghost use Rattle.ff_ids.specs.declared.TheConstants.{PAGES};
 ghost use Rattle.ff_ids.specs.Views.{all_numbers};
 ghost use Rattle.journal.specs.declared.event.Event as journal;
 ghost use Rattle.validate.specs.Certified.{certificate_of};
 ghost use Rattle.node_rules.specs.Nodes.{Setting, Node as RulesNode};
-ghost use Rattle.node_rules.specs.Pages.{partner as partner_of};
+ghost use Rattle.node_rules.specs.Pages.{page_number, partner as partner_of};
 ghost use Rattle.node_rules.specs.Calls.{Call, sends};
 ghost use Rattle.node_rules.specs.Ticking.{gossips, pings_all};
 ghost use Rattle.datagram.specs.declared.Datagram.TheVariants as kinds;
@@ -18,7 +20,7 @@ use crate::hearing::bytes_of;
 use datagram::Datagram;
 use ff_ids::{MEMBERS, MemberId};
 use fields::NoMemory;
-use gossip::{page_of, partner};
+use gossip::{Exchange, exchange_of};
 use std::alloc::Global;
 use validate::Roster;
 
@@ -95,13 +97,18 @@ impl Node {
         }
     }
 
-    /// The partner of the round, where these are the certified members.
-    fn partner(&self, numbers: &[MemberId], round: u64) -> Option<MemberId>
-        ensures { (s : Setting) (n : RulesNode) → IsNode s self.now n
+    /// With whom summaries are exchanged in the round, and of which page, where these are the certified members.
+    fn exchange_at(&self, numbers: &[MemberId], round: u64) -> Option<Exchange>
+        ensures partner { (s : Setting) (n : RulesNode) → IsNode s self.now n
             → numbers.now ≡ filter (λ m. is_some (certificate_of self.now.roster m)) all_numbers
-            → result ≡ partner_of s n round }
+            → option_map (λ e. e.partner) result ≡ partner_of s n round }
+        ensures page { (s : Setting) (n : RulesNode) → IsNode s self.now n
+            → numbers.now ≡ filter (λ m. is_some (certificate_of self.now.roster m)) all_numbers
+            → IfSome result (λ e. e.page ≡ page_number s n round) }
+        ensures range { IfSome result (λ e. e.page < PAGES) }
     {
-        partner(&self.membership, numbers, self.me, round)
+        let last = highest(numbers);
+        exchange_of(self.heal, &self.membership, numbers, last, self.me, round)
     }
 
     /// The same, where these are the certified members.
@@ -113,11 +120,9 @@ impl Node {
         ensures grows { Grows self.old self.new }
         ensures signs_nothing { SignsNothing self.old self.new }
     {
-        let tolerance = self.group.t;
-        let page = page_of(round, 2 * tolerance + 1, highest(numbers));
-        let partner = self.partner(numbers, round);
-        if let Some(to) = partner {
-            self.send_page(alloc, to, false, page);
+        let exchange = self.exchange_at(numbers, round);
+        if let Some(with) = exchange {
+            self.send_page(alloc, with.partner, false, with.page);
         }
     }
 }

@@ -1,5 +1,4 @@
-//! Delivered records: each is refused for its first fault, or accepted, and an accepted accusation against this node
-//! is answered at once.
+//! Delivered records: each is refused for its first fault, or accepted, and what asks a note of this node gets it at once.
 
 ghost use Rattle.std.specs.Prelude.{◌≡◌, ℕ, ◌≤◌, ◌<◌, List, true, None, Some, IfErr, is_err, length, All, OnOk};
 ghost use Rattle.std.specs.FinMap.{get};
@@ -7,11 +6,12 @@ ghost use Rattle.ports.specs.Count.{counted};
 ghost use Rattle.journal.specs.declared.event.Event as journal;
 ghost use Rattle.records.specs.declared.Body.TheVariants as bodies;
 ghost use Rattle.records.specs.Spelling.{HasPort};
+ghost use Rattle.records.specs.declared.Record.{Record as Recorded};
 ghost use Rattle.validate.specs.Table.{IsUnrefusedBy};
 ghost use Rattle.node_rules.specs.Nodes.{Setting};
 ghost use Rattle.node_rules.specs.Refusals.{refusal};
 ghost use Rattle.node_rules.specs.Calls.{Call, takes};
-ghost use Rattle.node_rules.specs.Deliveries.{answers, handles};
+ghost use Rattle.node_rules.specs.Deliveries.{asked_with, gives_note, handles};
 ghost use Rattle.rebuttal.specs.Rebuttals.{IsAgainst};
 ghost use Rattle.node_core.specs.declared.NodeFault.TheVariants as faults;
 ghost use Rattle.node_core.specs.Noted.{IsOthers, own_note};
@@ -30,7 +30,7 @@ use std::alloc::Global;
 use validate::check;
 
 impl Node {
-    /// Answers an accepted accusation, if it is against this node.
+    /// Answers an accepted accusation, if it is against this node, as far as the node's epoch may rise.
     fn answer<D: Disk>(
         &mut self,
         alloc: Global,
@@ -41,9 +41,10 @@ impl Node {
             → IsAgainst (own_note self.old.me self.old.signer.state) acc.now }
         requires open { IsInCall self.old }
         ensures plays { (s : Setting) (es : List journal.Event) (os : List (ℕ × List ℕ)) (c : Call)
-            → Plays s es os self.old c
+            (rec : Recorded) → Plays s es os self.old c
             → Runs (Plays s es os self.new) (Stops s es os self.new)
-            (λ works. answers works s (bodies.Accusation acc.now) c) result }
+            (λ works. gives_note works s (asked_with s c.node None (bodies.Accusation acc.now) rec)
+            c) result }
         ensures grows { Grows self.old self.new }
         ensures spends { Spends self.old self.new (D.state disk.old).moments
             (D.state disk.new).moments }
@@ -54,14 +55,18 @@ impl Node {
         ensures stores { OnOk result (Stores self.old.signer self.new.signer
             (D.state disk.old).model (D.state disk.new).model) }
         ensures fails { (s : Setting) (es : List journal.Event) (os : List (ℕ × List ℕ)) (c : Call)
-            → Plays s es os self.old c
-            → FailsIn (answers true s (bodies.Accusation acc.now) c) self.old self.new
+            (rec : Recorded) → Plays s es os self.old c
+            → FailsIn (gives_note true s
+            (asked_with s c.node None (bodies.Accusation acc.now) rec) c) self.old self.new
             (D.state disk.old).model (D.state disk.new).model result }
     {
         let Some(own) = self.membership.note_of(self.me) else {
             unreachable!()
         };
         if !must_answer(&own, acc) {
+            return Ok(());
+        }
+        if !self.may_rise() {
             return Ok(());
         }
         let tolerance = self.group.t;
@@ -88,7 +93,8 @@ impl Node {
             → Plays s es os self.old c
             → refusal s c.node rec.rec ≡ None
             → Runs (Plays s es os self.new) (Stops s es os self.new)
-            (λ works. answers works s body.now (takes s rec.rec c)) result }
+            (λ works. gives_note works s (asked_with s c.node None body.now rec.rec)
+            (takes s rec.rec c)) result }
         ensures grows { Grows self.old self.new }
         ensures spends { Spends self.old self.new (D.state disk.old).moments
             (D.state disk.new).moments }
@@ -101,7 +107,8 @@ impl Node {
         ensures fails { (s : Setting) (es : List journal.Event) (os : List (ℕ × List ℕ)) (c : Call)
             → Plays s es os self.old c
             → refusal s c.node rec.rec ≡ None
-            → FailsIn (answers true s body.now (takes s rec.rec c)) self.old self.new
+            → FailsIn (gives_note true s (asked_with s c.node None body.now rec.rec)
+            (takes s rec.rec c)) self.old self.new
             (D.state disk.old).model (D.state disk.new).model result }
     {
         match body {
@@ -115,7 +122,7 @@ impl Node {
         Ok(())
     }
 
-    /// One delivered record. Where memory was refused none is accepted.
+    /// One delivered record. Where memory was refused none is accepted, and none asks a note.
     pub(crate) fn handle<D: Disk>(
         &mut self,
         alloc: Global,
@@ -143,6 +150,8 @@ impl Node {
             (D.state disk.new).model result }
     {
         let body = rec.body;
+        let asks_return = self.asks_return(&rec);
+        let mask = self.signer.state().mask;
         match check(
             &self.group,
             &self.authority,
@@ -163,6 +172,9 @@ impl Node {
                     body,
                     fault: Some(fault),
                 });
+                if asks_return {
+                    return self.want_note(alloc, disk, mask);
+                }
                 Ok(())
             }
         }

@@ -165,11 +165,11 @@ impl Node {
     fn give_lacking(&mut self, alloc: Global, to: MemberId, theirs: &Summary)
         ensures plays { (s : Setting) (es : List journal.Event) (os : List (ℕ × List ℕ)) (c : Call)
             → Plays s es os self.old c
-            → Plays s es os self.new (gives s to (lacking c.node theirs.now) c) }
+            → Plays s es os self.new (gives s to (lacking c.node to theirs.now) c) }
         ensures grows { Grows self.old self.new }
         ensures signs_nothing { SignsNothing self.old self.new }
     {
-        match lacking_bytes(alloc, &self.records, self.me, theirs) {
+        match lacking_bytes(alloc, &self.records, self.me, to, theirs) {
             Ok(Some(bytes)) => self.send(alloc, bytes, to),
             Ok(None) => {}
             Err(_) => self.telling.fail(),

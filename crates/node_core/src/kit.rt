@@ -6,7 +6,7 @@ ghost use Rattle.node_core.specs.Begins.{IsCheckedIn, IsGroup, IsKit};
 ghost use Rattle.node_core.specs.Told.{IsNoLoss};
 
 use crate::certificates::are_certificates_of;
-use ff_ids::{Group, MAX_TOLERANCE, MemberId};
+use ff_ids::{Group, Heal, MAX_TOLERANCE, MemberId};
 use fields::Bytes;
 use journal::Event;
 use lms_tree::PublicKey;
@@ -14,11 +14,13 @@ use records::{Checked, Key};
 use std::alloc::Global;
 use std::marker::Model;
 
-/// A group, a member of it and the authority's key; certificates, the member's own among them, each checked under that
+/// A group, with the option that nodes which lost each other come together again or without it, a member of it and the
+/// authority's key; certificates, the member's own among them, each checked under that
 /// key; and the 32 bytes from which the nonces of the life come.
 #[derive(Drop)]
 pub struct Kit {
     pub group: Group,
+    pub heal: Option<Heal>,
     pub me: MemberId,
     pub authority: PublicKey,
     pub certificates: Vec<Checked>,

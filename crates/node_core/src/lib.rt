@@ -18,16 +18,18 @@ mod hearing;
 mod kit;
 mod leaving;
 mod parts;
+mod returning;
 mod roll;
 mod sending;
 mod signing;
+mod spreading;
 mod starting;
 mod steps;
 mod telling;
 mod ticking;
 
 use detector::{Detector, Found};
-use ff_ids::{Group, MemberId};
+use ff_ids::{Group, Heal, MemberId, RecordKey};
 pub use kit::{Events, Kit, Outbox};
 use lms_tree::PublicKey;
 use membership::{Changes, Membership};
@@ -59,6 +61,7 @@ pub enum NodeFault {
 #[derive(Drop)]
 pub struct Node {
     group: Group,
+    heal: Option<Heal>,
     me: MemberId,
     authority: PublicKey,
     signer: Signer,
@@ -66,6 +69,8 @@ pub struct Node {
     roster: Roster,
     records: RecordSet,
     detector: Detector,
+    news: Vec<RecordKey>,
+    since: u64,
     changes: Changes,
     found: Found,
     telling: CallOutput,
@@ -85,6 +90,7 @@ impl Model for Node {
 
     ghost view = { λ n. record {
       group = n.group;
+      heal = n.heal;
       me = n.me;
       authority = n.authority;
       signer = n.signer;
@@ -92,6 +98,8 @@ impl Model for Node {
       roster = n.roster;
       records = n.records;
       detector = n.detector;
+      news = n.news.items;
+      since = n.since;
       telling = n.telling;
       ended = n.ended;
     } };
@@ -107,6 +115,14 @@ impl Node {
         ensures group { result.now.group ≡ self.now.group }
     {
         &self.membership
+    }
+
+    /// How many of the ticks that are owed at a turn are kept, where the group's nodes come together again: as many as the
+    /// period has.
+    pub fn most_owed(&self) -> Option<u32>
+        ensures { result ≡ option_map (λ heal. self.now.group.period) self.now.heal }
+    {
+        self.heal.map(|_| self.group.period)
     }
 
     /// The port in the member's certificate; none exactly where it has no certificate here.

@@ -20,7 +20,7 @@ ghost use Rattle.node_core.specs.Signatures.{with_stored, next_own, Runs};
 use crate::parts::keep_own;
 use crate::sending::datagram_of;
 use crate::{Node, NodeFault};
-use ff_ids::{AccBody, Mask, MemberId};
+use ff_ids::{AccBody, Mask, MemberId, RecordKey};
 use fields::NoMemory;
 use journal::What;
 use ports::Disk;
@@ -100,7 +100,9 @@ impl Node {
             Ok(rec) => match rec.rec().body {
                 Body::Note(note) => {
                     let bytes = datagram_of(alloc, self.me, rec.rec());
+                    let key = RecordKey::Note(note.member);
                     keep_own(
+                        self.heal,
                         &mut self.membership,
                         &mut self.records,
                         &mut self.changes,
@@ -109,6 +111,7 @@ impl Node {
                         rec,
                         &note,
                     );
+                    self.add_news(key);
                     self.send_own(alloc, bytes, None);
                 }
                 Body::Certificate(_) | Body::Accusation(_) => unreachable!(),

@@ -3,6 +3,7 @@
 ghost use Rattle.std.specs.Prelude.{◌≡◌, ◌≤◌, ◌<◌, ◌^◌, ◌+◌, ℕ, true, false, List, [], ◌∷◌, length, None, IfOk, IfErr, OnErr, All, is_err};
 ghost use Rattle.std.specs.List.{list_any};
 ghost use Rattle.ff_ids.specs.declared.TheConstants.{MAX_TOLERANCE};
+ghost use Rattle.ff_ids.specs.declared.summary.RecordKey.TheVariants as keys;
 ghost use Rattle.ff_ids.specs.Masks.{good_mask};
 ghost use Rattle.ports.specs.Count.{counted};
 ghost use Rattle.sign_keys.specs.Keys.{index_count, public_key};
@@ -12,10 +13,12 @@ ghost use Rattle.epoch_store.specs.declared.Stored.{Stored};
 ghost use Rattle.epoch_store.specs.Seat.{next_seat};
 ghost use Rattle.node_rules.specs.Nodes.{Setting};
 ghost use Rattle.node_rules.specs.Replies.{first_mask as mask_at_first};
+ghost use Rattle.node_rules.specs.Calls.{Call};
 ghost use Rattle.node_rules.specs.Starting.{started};
 ghost use Rattle.journal.specs.declared.event.Event as journal;
-ghost use Rattle.node_core.specs.Playing.{Plays, IsReady, setting_of};
-ghost use Rattle.node_core.specs.Spending.{LivesOn, TellsOf, SpendsUntold, StartSpends};
+ghost use Rattle.node_core.specs.News.{with_fresh};
+ghost use Rattle.node_core.specs.Playing.{Plays, Grows, IsReady, setting_of};
+ghost use Rattle.node_core.specs.Spending.{LivesOn, TellsOf, SignsNothing, SpendsUntold, StartSpends};
 ghost use Rattle.node_core.specs.Told.{IsPrefix};
 ghost use Rattle.node_core.specs.Noted.{HoldsNotes, own_note};
 ghost use Rattle.node_core.specs.OnDisks.{PutsFirst, kept_first};
@@ -28,7 +31,7 @@ use crate::roll::Roll;
 use crate::telling::CallOutput;
 use crate::{Node, NodeFault};
 use detector::{Detector, Found};
-use ff_ids::{Epoch, Group, Mask, MemberId, NoteBody, all_rings, good_mask};
+use ff_ids::{Epoch, Group, Heal, Mask, MemberId, NoteBody, RecordKey, all_rings, good_mask};
 use fields::NoMemory;
 use lms_tree::PublicKey;
 use membership::Changes;
@@ -141,11 +144,14 @@ fn sign_first<D: Disk>(
 #[derive(Drop)]
 pub struct Ready {
     pub group: Group,
+    pub heal: Option<Heal>,
     pub me: MemberId,
     pub authority: PublicKey,
     pub signer: Signer,
     pub roll: Roll,
     pub detector: Detector,
+    pub news: Vec<RecordKey>,
+    pub since: u64,
     pub changes: Changes,
     pub found: Found,
     pub index: u32,
@@ -172,7 +178,7 @@ fn make_ready<D: Disk>(
     ensures body { IfOk result (λ r. r.rec.rec.body ≡ bodies.Note r.note) }
     ensures tolerance { IfOk result (λ r. r.rec.t ≡ r.group.t) }
     ensures begins { IfOk result
-        (λ r. (s : Setting) → s ≡ setting_of kit.group kit.me kit.authority signer.key
+        (λ r. (s : Setting) → s ≡ setting_of kit.group kit.heal kit.me kit.authority signer.key
         → MayBegin s kit.nonce_seed (recs_of kit.certificates.items) signer.state r) }
     ensures cause { IfErr result (λ e. MayRefuse signer e) }
     ensures free { IfOk result (λ r. signer.state.next < index_count signer.key) }
@@ -190,6 +196,7 @@ fn make_ready<D: Disk>(
 {
     let Kit {
         group,
+        heal,
         me,
         authority,
         certificates,
@@ -200,6 +207,7 @@ fn make_ready<D: Disk>(
     };
     let mut signer = signer;
     let first = sign_first(alloc, &mut signer, disk, &group, me)?;
+    let since = signer.state().epoch;
     let Parts {
         roll,
         detector,
@@ -209,11 +217,14 @@ fn make_ready<D: Disk>(
     let First { index, note, rec } = first;
     Ok(Ready {
         group,
+        heal,
         me,
         authority,
         signer,
         roll,
         detector,
+        news: Vec::new(alloc),
+        since,
         changes,
         found,
         index,
@@ -242,18 +253,23 @@ impl Ready {
     {
         let Ready {
             group,
+            heal,
             me,
             authority,
             signer,
             mut roll,
             detector,
+            news,
+            since,
             mut changes,
             found,
             index,
             note,
             rec,
         } = self;
+        let option = &heal;
         keep_own(
+            *option,
             &mut roll.membership,
             &mut roll.records,
             &mut changes,
@@ -264,6 +280,7 @@ impl Ready {
         );
         Node {
             group,
+            heal,
             me,
             authority,
             signer,
@@ -271,15 +288,31 @@ impl Ready {
             roster: roll.roster,
             records: roll.records,
             detector,
+            news,
+            since,
             changes,
             found,
             telling,
             ended: false,
         }
+        .with_own_news()
     }
 }
 
 impl Node {
+    /// The node, where with the option its own note is news.
+    fn with_own_news(mut self) -> Node
+        ensures plays { (s : Setting) (es : List journal.Event) (os : List (ℕ × List ℕ)) (c : Call)
+            → Plays s es os self c
+            → Plays s es os result (with_fresh s (keys.Note self.me) c) }
+        ensures grows { Grows self result }
+        ensures signs_nothing { SignsNothing self result }
+    {
+        let own = RecordKey::Note(self.me);
+        self.add_news(own);
+        self
+    }
+
     /// Begins a life: takes the certificates of the kit, and signs and accepts a first note, of the epoch after the
     /// stored one, with the stored mask if it is good, else with all rings enabled. Nothing is sent.
     ///
@@ -297,11 +330,11 @@ impl Node {
         requires signer { signer.group ≡ kit.group }
         requires open { signer.closed ≡ false }
         ensures starts { IfOk result
-            (λ node. (s : Setting) → s ≡ setting_of kit.group kit.me kit.authority signer.key
+            (λ node. (s : Setting) → s ≡ setting_of kit.group kit.heal kit.me kit.authority signer.key
             → Starts s kit.nonce_seed (recs_of kit.certificates.items) signer.state node events.old
             events.new) }
         ensures vouchable { IfOk result
-            (λ node. (s : Setting) → s ≡ setting_of kit.group kit.me kit.authority signer.key
+            (λ node. (s : Setting) → s ≡ setting_of kit.group kit.heal kit.me kit.authority signer.key
             → IsVouchable s (public_key signer.key) (recs_of kit.certificates.items) signer.state) }
         ensures going { IfOk result (λ node. node.ended ≡ false) }
         ensures closed { IfOk result (λ node. node.signer.closed ≡ false) }

@@ -16,7 +16,7 @@ ghost use Rattle.node_core.specs.Told.{is_loss};
 
 use crate::Node;
 use crate::parts::{accept_note, report};
-use ff_ids::{AccBody, NoteBody};
+use ff_ids::{AccBody, NoteBody, RecordKey};
 use journal::What;
 use records::{Body, CertBody, Checked};
 use ring_order::hash_places;
@@ -61,6 +61,7 @@ impl Node {
     {
         self.membership.tick(&mut self.changes);
         report(
+            self.heal,
             &mut self.records,
             &mut self.telling,
             self.membership.now(),
@@ -79,7 +80,9 @@ impl Node {
         ensures grows { Grows self.old self.new }
         ensures signs_nothing { SignsNothing self.old self.new }
     {
+        let key = RecordKey::Note(note.member);
         accept_note(
+            self.heal,
             &mut self.membership,
             &mut self.records,
             &mut self.changes,
@@ -87,6 +90,7 @@ impl Node {
             rec,
             note,
         );
+        self.add_news(key);
     }
 
     /// Accepts the accusation of this record.
@@ -101,8 +105,10 @@ impl Node {
         ensures grows { Grows self.old self.new }
         ensures signs_nothing { SignsNothing self.old self.new }
     {
+        let key = RecordKey::Accusation(acc.accused, acc.ring);
         let _fault = self.membership.put_accusation(acc);
         self.records.put(rec);
+        self.add_news(key);
     }
 
     /// Accepts the certificate of this record, of a number without one.

@@ -1,6 +1,6 @@
-//! One tick: that of the life, and where it is due the accusations of the silent, the pings and the summary.
+//! One tick: that of the life, and where it is due the news, the accusations of the silent, the pings and the summary.
 
-ghost use Rattle.std.specs.Prelude.{◌≡◌, ℕ, ◌<◌, ◌-◌, ◌^◌, List, true, false, Some, ◌↔◌, IfOk, OnOk, IfErr, is_err};
+ghost use Rattle.std.specs.Prelude.{◌≡◌, ℕ, ◌<◌, ◌-◌, ◌^◌, List, true, false, Some, ◌↔◌, IfOk, OnOk, IfErr, is_err, if◌then◌else◌};
 ghost use Rattle.ports.specs.Count.{counted as counts_faults, Rose};
 ghost use Rattle.ports.specs.MemoryDisk.{DiskState};
 ghost use Rattle.node_rules.specs.Nodes.{Node as RulesNode};
@@ -44,6 +44,13 @@ fn copied(alloc: Global, found: &Found) -> Result<Due, NoMemory>
     })
 }
 
+/// From which epoch the node's rise counts: from this one where a span begins.
+fn since_after(since: u64, epoch: u64, begins_span: bool) -> u64
+    ensures { result ≡ (if begins_span then epoch else since) }
+{
+    if begins_span { epoch } else { since }
+}
+
 impl Node {
     /// The pings go out, each to a member with its nonce, in order.
     pub(crate) fn ping_all(&mut self, alloc: Global, pings: &[(MemberId, u64)])
@@ -59,8 +66,8 @@ impl Node {
         }
     }
 
-    /// What a due tick brings behind that of the life: the accusations, then the pings, then the summary. Behind a refusal of
-    /// memory none goes out.
+    /// What a due tick brings behind that of the life: the news, the accusations, then the pings, then the summary. Behind a
+    /// refusal of memory none goes out.
     fn pass_due<D: Disk>(
         &mut self,
         alloc: Global,
@@ -88,6 +95,7 @@ impl Node {
             (on_disk c d self.old.signer.seat)) }
     {
         let Due { silent, pings } = due;
+        self.spread(alloc);
         self.accuse_all(alloc, disk, silent)?;
         if self.telling.has_failed() {
             return Ok(());
@@ -124,6 +132,9 @@ impl Node {
         let is_due = now % period == 0;
         self.detector
             .tick(is_due, &self.membership, self.me, &mut self.found);
+        let begins_span = now % u64::from(self.group.timeout) == 0;
+        let epoch = self.signer.state().epoch;
+        self.since = since_after(self.since, epoch, begins_span);
         if !is_due {
             return Ok(());
         }

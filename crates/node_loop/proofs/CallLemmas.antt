@@ -173,6 +173,7 @@ only-certificates : Certificates → Holding
 only-certificates roster (keys.Certificate m) = option_map unsigned (kept_certificate roster m)
 only-certificates roster (keys.Note m) = None
 only-certificates roster (keys.Accusation m ring) = None
+only-certificates roster (keys.Removal m) = None
 
 abbrev knowing : Certificates → Node → Node
 knowing roster n = record n { held = only-certificates roster }

@@ -1,11 +1,14 @@
 -- How a turn is served, and the turns one after another.
-use Rattle.std.proofs.Common.{◌≡◌, ℕ, Bool, true, false, zero, suc, ◌+◌, ◌-◌, ◌<◌, ◌⊎◌, inl, inr, List, [], ◌∷◌, ◌++◌, Option, Some, Result, Ok, Err, length, take, drop, length-append, length-drop, length-take, refl, sym, ap, ◌∙◌, subst, append_assoc, append-nil, arith}
+use Rattle.std.proofs.Common.{◌≡◌, ℕ, Bool, true, false, zero, suc, ◌+◌, ◌-◌, ◌<◌, ◌⊎◌, inl, inr, List, [], ◌∷◌, ◌++◌, Option, Some, None, Result, Ok, Err, length, take, drop, length-append, length-drop, length-take, refl, sym, ap, ◌∙◌, subst, append_assoc, append-nil, arith}
 use Rattle.std.specs.Prelude.{OnOk}
+use Rattle.std.specs.Option.{option_map}
+use Rattle.ff_ids.specs.declared.Group.{Group}
+use Rattle.ff_ids.specs.Heals.{Heal}
 use Rattle.ports.specs.Disk.{Moment}
 use Rattle.ports.specs.Link.{LinkState, next_of, received_from}
 use Rattle.ports.specs.Clock.{next_reading, ReadsClock}
 use Rattle.fields.specs.declared.NoMemory.{NoMemory}
-use Rattle.node_core.specs.Playing.{Kept, IsNode}
+use Rattle.node_core.specs.Playing.{Kept, IsNode, setting_of}
 use Rattle.node_core.proofs.SpendLemmas.{lives-same}
 use Rattle.ports.specs.declared.link.LinkAnswer.{LinkAnswer}
 use Rattle.std.proofs.KnownBytes.{Appends-nil}
@@ -17,7 +20,8 @@ use Rattle.journal.specs.declared.turn.Heard.{Heard}
 use Rattle.journal.specs.declared.turn.Heard.TheVariants as heard
 use Rattle.journal.specs.declared.turn.Turn.{Turn}
 use Rattle.journal.specs.Turns.{turn_text}
-use Rattle.node_loop.specs.Turns.{Act, Receives, Writes, Calls, Outlook, after_turn, leaving_acts, life_acts, delivery_of, heard_of, ticks_in, ticks_of, ticks_owed, turn_acts, turn_in, turns_from}
+use Rattle.node_loop.specs.declared.turns.Pace.{Pace}
+use Rattle.node_loop.specs.Turns.{Act, Receives, Writes, Calls, Outlook, after_turn, leaving_acts, life_acts, delivery_of, forgotten_in, heard_of, most_for, pace_for, ticks_forgotten, ticks_in, ticks_of, ticks_owed, turn_acts, turn_in, turns_from}
 use Rattle.node_loop.specs.Courses.{ServeState, acted, served, served_from, with_feed, writes}
 use Rattle.node_loop.specs.Writing.{Before, Hears, IsWithin, Standing, Stands, Tells, before_all, standing}
 use Rattle.node_loop.specs.Serving.{Sees, Serves}
@@ -169,96 +173,105 @@ read-next o r reading readings after made result sees h =
     (taken.read ∙ ap (λ k. next_reading k o.readings) sees.reading, taken.left)
 
 -- the outlook behind a turn
-pub sees-after : (s : Setting) (millis base number : ℕ) (o : Outlook) (r : ServeState) (reading : ℕ) (readings : Option (List ℕ)) (made now : ℕ) (later : Option (List ℕ)) (made1 : ℕ)
-    → Sees o r reading readings made → now ≡ next_reading o.reading o.readings → later ≡ Some (drop 1 o.readings) → made1 ≡ made + (turn_in millis base number o).ticks
-    → Sees (after_turn millis base o) (served s (turn_acts (turn_in millis base number o)) r) now later made1
-sees-after s millis base number o r reading readings made now later made1 sees is left more = record {
-  heard = coming-turn s (turn_in millis base number o) r ∙ ap (drop 1) sees.heard;
+pub sees-after : (s : Setting) (pace : Pace) (base number : ℕ) (o : Outlook) (r : ServeState) (reading : ℕ) (readings : Option (List ℕ)) (made now : ℕ) (later : Option (List ℕ)) (made1 : ℕ)
+    → Sees o r reading readings made → now ≡ next_reading o.reading o.readings → later ≡ Some (drop 1 o.readings) → made1 ≡ made + (turn_in pace base number o).ticks + forgotten_in pace base o
+    → Sees (after_turn pace base o) (served s (turn_acts (turn_in pace base number o)) r) now later made1
+sees-after s pace base number o r reading readings made now later made1 sees is left more = record {
+  heard = coming-turn s (turn_in pace base number o) r ∙ ap (drop 1) sees.heard;
   reading = is;
   readings = left;
-  made = more ∙ ap (λ k. k + (turn_in millis base number o).ticks) sees.made;
+  made = more ∙ ap (λ k. k + (turn_in pace base number o).ticks + forgotten_in pace base o) sees.made;
 }
 
 -- what was heard and how many ticks are made is the turn that is due
-pub seen-turn : (millis base number : ℕ) (o : Outlook) (r : ServeState) (reading : ℕ) (readings later : Option (List ℕ)) (made now ticks : ℕ) (came : Heard)
-    → Sees o r reading readings made → ReadsClock reading readings later now → came ≡ heard_of (next_of r.link.coming) → ticks ≡ ticks_owed millis base made now
-    → record { number = number; heard = came; ticks = ticks } ≡ turn_in millis base number o
-seen-turn millis base number o r reading readings later made now ticks came sees read is owed =
+pub seen-turn : (pace : Pace) (base number : ℕ) (o : Outlook) (r : ServeState) (reading : ℕ) (readings later : Option (List ℕ)) (made now ticks : ℕ) (came : Heard)
+    → Sees o r reading readings made → ReadsClock reading readings later now → came ≡ heard_of (next_of r.link.coming) → ticks ≡ ticks_owed pace base made now
+    → record { number = number; heard = came; ticks = ticks } ≡ turn_in pace base number o
+seen-turn pace base number o r reading readings later made now ticks came sees read is owed =
     let heard_is : came ≡ heard_of (next_of o.heard) = is ∙ ap (λ answers. heard_of (next_of answers)) sees.heard in
-    let ticks_is : ticks ≡ ticks_in millis base o =
-    owed ∙ ap (λ k. ticks_owed millis base k now) sees.made ∙ ap (λ k. ticks_owed millis base o.made k) (read-next o r reading readings later made now sees read).0 in
+    let ticks_is : ticks ≡ ticks_in pace base o =
+    owed ∙ ap (λ k. ticks_owed pace base k now) sees.made ∙ ap (λ k. ticks_owed pace base o.made k) (read-next o r reading readings later made now sees read).0 in
     let with_heard : Heard → Turn = λ h. record { number = number; heard = h; ticks = ticks } in
     let with_ticks : ℕ → Turn = λ k. record { number = number; heard = heard_of (next_of o.heard); ticks = k } in
     ap with_heard heard_is ∙ ap with_ticks ticks_is
+
+-- what counts as made behind the turn that is due
+pub seen-made : (pace : Pace) (base number : ℕ) (o : Outlook) (r : ServeState) (reading : ℕ) (readings later : Option (List ℕ)) (made now made1 : ℕ) (turn : Turn)
+    → Sees o r reading readings made → ReadsClock reading readings later now → turn ≡ turn_in pace base number o → made1 ≡ made + turn.ticks + ticks_forgotten pace base made now
+    → made1 ≡ made + (turn_in pace base number o).ticks + forgotten_in pace base o
+seen-made pace base number o r reading readings later made now made1 turn sees read due is =
+    let ticks : ℕ = (turn_in pace base number o).ticks in
+    is ∙ ap (λ (t : Turn). made + t.ticks + ticks_forgotten pace base made now) due ∙ ap (λ k. made + ticks + ticks_forgotten pace base k now) sees.made
+    ∙ ap (λ k. made + ticks + ticks_forgotten pace base o.made k) (read-next o r reading readings later made now sees read).0
 
 pub on-any : (answer : Result (Unit {0}) ServeFault) (P : Type 0) → P → OnOk answer P
 on-any (Ok x) P p = p
 on-any (Err e) P p = record {}
 
 -- some turns were made, and the rest is to come
-pub record Turned (s : Setting) (before : Before) (millis base all done : ℕ) (o : Outlook) (start : ServeState) (w : Standing) (reading : ℕ) (readings : Option (List ℕ)) (made : ℕ) : Type 0 where
+pub record Turned (s : Setting) (before : Before) (pace : Pace) (base all done : ℕ) (o : Outlook) (start : ServeState) (w : Standing) (reading : ℕ) (readings : Option (List ℕ)) (made : ℕ) : Type 0 where
   pub acts : List Act
   pub outlook : Outlook
-  pub split : turns_from millis base all 1 o ≡ acts ++ turns_from millis base (all - done) (done + 1) outlook
+  pub split : turns_from pace base all 1 o ≡ acts ++ turns_from pace base (all - done) (done + 1) outlook
   pub at : Stands s before w (served s acts start)
   pub sees : Sees outlook (served s acts start) reading readings made
 
-turns-none : (millis base all : ℕ) (o : Outlook) → turns_from millis base all 1 o ≡ turns_from millis base (all - 0) (0 + 1) o
-turns-none millis base all o = let e : all ≡ all - 0 = omega arith in ap (λ k. turns_from millis base k 1 o) e
+turns-none : (pace : Pace) (base all : ℕ) (o : Outlook) → turns_from pace base all 1 o ≡ turns_from pace base (all - 0) (0 + 1) o
+turns-none pace base all o = let e : all ≡ all - 0 = omega arith in ap (λ k. turns_from pace base k 1 o) e
 
-pub turned-first : (s : Setting) (before : Before) (millis base all : ℕ) (o : Outlook) (start : ServeState) (w : Standing) (reading : ℕ) (readings : Option (List ℕ)) (made : ℕ)
-    → Stands s before w start → Sees o start reading readings made → Turned s before millis base all 0 o start w reading readings made
-turned-first s before millis base all o start w reading readings made at sees = record {
+pub turned-first : (s : Setting) (before : Before) (pace : Pace) (base all : ℕ) (o : Outlook) (start : ServeState) (w : Standing) (reading : ℕ) (readings : Option (List ℕ)) (made : ℕ)
+    → Stands s before w start → Sees o start reading readings made → Turned s before pace base all 0 o start w reading readings made
+turned-first s before pace base all o start w reading readings made at sees = record {
   acts = [];
   outlook = o;
-  split = turns-none millis base all o;
+  split = turns-none pace base all o;
   at = subst (λ r. Stands s before w r) (sym (served-nil s start)) at;
   sees = subst (λ r. Sees o r reading readings made) (sym (served-nil s start)) sees;
 }
 
-turns-step : (millis base all done : ℕ) (o : Outlook) → done < all
-    → turns_from millis base (all - done) (done + 1) o ≡ turn_acts (turn_in millis base (done + 1) o) ++ turns_from millis base (all - (done + 1)) (done + 1 + 1) (after_turn millis base o)
-turns-step millis base all done o lt =
+turns-step : (pace : Pace) (base all done : ℕ) (o : Outlook) → done < all
+    → turns_from pace base (all - done) (done + 1) o ≡ turn_acts (turn_in pace base (done + 1) o) ++ turns_from pace base (all - (done + 1)) (done + 1 + 1) (after_turn pace base o)
+turns-step pace base all done o lt =
     let e : all - done ≡ suc (all - (done + 1)) = omega (arith, lt) in
-    ap (λ k. turns_from millis base k (done + 1) o) e
+    ap (λ k. turns_from pace base k (done + 1) o) e
 
-split-step : (s : Setting) (before : Before) (millis base all done : ℕ) (o : Outlook) (start : ServeState) (w : Standing) (reading : ℕ) (readings : Option (List ℕ)) (made : ℕ)
-    → done < all → (t : Turned s before millis base all done o start w reading readings made)
-    → turns_from millis base all 1 o ≡ t.acts ++ (turn_acts (turn_in millis base (done + 1) t.outlook) ++ turns_from millis base (all - (done + 1)) (done + 1 + 1) (after_turn millis base t.outlook))
-split-step s before millis base all done o start w reading readings made lt t = t.split ∙ ap (λ xs. t.acts ++ xs) (turns-step millis base all done t.outlook lt)
+split-step : (s : Setting) (before : Before) (pace : Pace) (base all done : ℕ) (o : Outlook) (start : ServeState) (w : Standing) (reading : ℕ) (readings : Option (List ℕ)) (made : ℕ)
+    → done < all → (t : Turned s before pace base all done o start w reading readings made)
+    → turns_from pace base all 1 o ≡ t.acts ++ (turn_acts (turn_in pace base (done + 1) t.outlook) ++ turns_from pace base (all - (done + 1)) (done + 1 + 1) (after_turn pace base t.outlook))
+split-step s before pace base all done o start w reading readings made lt t = t.split ∙ ap (λ xs. t.acts ++ xs) (turns-step pace base all done t.outlook lt)
 
-pub turned-next : (s : Setting) (before : Before) (millis base all done : ℕ) (o : Outlook) (start : ServeState) (w w1 : Standing) (reading now : ℕ) (readings later : Option (List ℕ)) (made made1 : ℕ)
-    → done < all → (t : Turned s before millis base all done o start w reading readings made)
-    → Stands s before w1 (served s (turn_acts (turn_in millis base (done + 1) t.outlook)) (served s t.acts start))
-    → Sees (after_turn millis base t.outlook) (served s (turn_acts (turn_in millis base (done + 1) t.outlook)) (served s t.acts start)) now later made1
-    → Turned s before millis base all (done + 1) o start w1 now later made1
-turned-next s before millis base all done o start w w1 reading now readings later made made1 lt t at sees =
-    let acts = turn_acts (turn_in millis base (done + 1) t.outlook) in
+pub turned-next : (s : Setting) (before : Before) (pace : Pace) (base all done : ℕ) (o : Outlook) (start : ServeState) (w w1 : Standing) (reading now : ℕ) (readings later : Option (List ℕ)) (made made1 : ℕ)
+    → done < all → (t : Turned s before pace base all done o start w reading readings made)
+    → Stands s before w1 (served s (turn_acts (turn_in pace base (done + 1) t.outlook)) (served s t.acts start))
+    → Sees (after_turn pace base t.outlook) (served s (turn_acts (turn_in pace base (done + 1) t.outlook)) (served s t.acts start)) now later made1
+    → Turned s before pace base all (done + 1) o start w1 now later made1
+turned-next s before pace base all done o start w w1 reading now readings later made made1 lt t at sees =
+    let acts = turn_acts (turn_in pace base (done + 1) t.outlook) in
     let is : served s acts (served s t.acts start) ≡ served s (t.acts ++ acts) start = sym (served-append s t.acts acts start) in
     record {
       acts = t.acts ++ acts;
-      outlook = after_turn millis base t.outlook;
-      split = split-step s before millis base all done o start w reading readings made lt t ∙ sym (append_assoc t.acts acts (turns_from millis base (all - (done + 1)) (done + 1 + 1) (after_turn millis base t.outlook)));
+      outlook = after_turn pace base t.outlook;
+      split = split-step s before pace base all done o start w reading readings made lt t ∙ sym (append_assoc t.acts acts (turns_from pace base (all - (done + 1)) (done + 1 + 1) (after_turn pace base t.outlook)));
       at = subst (λ r. Stands s before w1 r) is at;
-      sees = subst (λ r. Sees (after_turn millis base t.outlook) r now later made1) is sees;
+      sees = subst (λ r. Sees (after_turn pace base t.outlook) r now later made1) is sees;
     }
 
-pub turned-ends : (s : Setting) (before : Before) (millis base all done : ℕ) (o : Outlook) (start : ServeState) (w w1 : Standing) (reading : ℕ) (readings : Option (List ℕ)) (made : ℕ) (e : ServeFault)
-    → done < all → (t : Turned s before millis base all done o start w reading readings made)
-    → Serves s before (turn_acts (turn_in millis base (done + 1) t.outlook)) (served s t.acts start) w1 (Err e)
-    → Serves s before (turns_from millis base all 1 o) start w1 (Err e)
-turned-ends s before millis base all done o start w w1 reading readings made e lt t h =
-    let acts = turn_acts (turn_in millis base (done + 1) t.outlook) in
-    let rest = turns_from millis base (all - (done + 1)) (done + 1 + 1) (after_turn millis base t.outlook) in
+pub turned-ends : (s : Setting) (before : Before) (pace : Pace) (base all done : ℕ) (o : Outlook) (start : ServeState) (w w1 : Standing) (reading : ℕ) (readings : Option (List ℕ)) (made : ℕ) (e : ServeFault)
+    → done < all → (t : Turned s before pace base all done o start w reading readings made)
+    → Serves s before (turn_acts (turn_in pace base (done + 1) t.outlook)) (served s t.acts start) w1 (Err e)
+    → Serves s before (turns_from pace base all 1 o) start w1 (Err e)
+turned-ends s before pace base all done o start w w1 reading readings made e lt t h =
+    let acts = turn_acts (turn_in pace base (done + 1) t.outlook) in
+    let rest = turns_from pace base (all - (done + 1)) (done + 1 + 1) (after_turn pace base t.outlook) in
     let P : List Act → Type 0 = λ xs. Serves s before xs start w1 (Err e) in
-    subst P (sym (split-step s before millis base all done o start w reading readings made lt t)) (serves-within s before t.acts acts rest start w1 e h)
+    subst P (sym (split-step s before pace base all done o start w reading readings made lt t)) (serves-within s before t.acts acts rest start w1 e h)
 
-pub turned-last : (s : Setting) (before : Before) (millis base all : ℕ) (o : Outlook) (start : ServeState) (w : Standing) (reading : ℕ) (readings : Option (List ℕ)) (made : ℕ)
-    → Turned s before millis base all all o start w reading readings made → Stands s before w (served s (turns_from millis base all 1 o) start)
-turned-last s before millis base all o start w reading readings made t =
+pub turned-last : (s : Setting) (before : Before) (pace : Pace) (base all : ℕ) (o : Outlook) (start : ServeState) (w : Standing) (reading : ℕ) (readings : Option (List ℕ)) (made : ℕ)
+    → Turned s before pace base all all o start w reading readings made → Stands s before w (served s (turns_from pace base all 1 o) start)
+turned-last s before pace base all o start w reading readings made t =
     let e : all - all ≡ 0 = omega arith in
-    let whole : turns_from millis base all 1 o ≡ t.acts =
-    t.split ∙ ap (λ k. t.acts ++ turns_from millis base k (all + 1) t.outlook) e ∙ append-nil t.acts in
+    let whole : turns_from pace base all 1 o ≡ t.acts =
+    t.split ∙ ap (λ k. t.acts ++ turns_from pace base k (all + 1) t.outlook) e ∙ append-nil t.acts in
     subst (λ xs. Stands s before w (served s xs start)) (sym whole) t.at
 
 -- ---- the life
@@ -283,10 +296,31 @@ pub begins-seeing : (n : RulesNode) (told : LinkState) (reading base : ℕ) (lat
     → Sees (first_outlook told.coming base readings) (served_from n told) reading later 0
 begins-seeing n told reading base later readings is left = record { heard = refl; reading = is; readings = left; made = refl }
 
-pub life-is : (millis turns : ℕ) (leave : Bool) (last base : ℕ) (coming : List LinkAnswer) (readings : List ℕ) → base ≡ next_reading last readings
-    → turns_from millis base turns 1 (first_outlook coming base readings) ++ leaving_acts leave ≡ life_acts millis turns leave coming last readings
+most-is : (heal : Option Heal) (g : Group) → option_map (λ (h : Heal). g.period) heal ≡ most_for heal g
+most-is None g = refl
+most-is (Some h) g = refl
+
+-- the pace of a node that keeps this
+abbrev pub pace_in : Kept → ℕ → Pace
+pace_in v millis = record { millis = millis; most = option_map (λ (h : Heal). v.group.period) v.heal }
+
+abbrev with_most : ℕ → Option ℕ → Pace
+with_most millis most = record { millis = millis; most = most }
+
+pub pace-kept : (v : Kept) (millis : ℕ) (most : Option ℕ) → most ≡ option_map (λ (h : Heal). v.group.period) v.heal → record { millis = millis; most = most } ≡ pace_in v millis
+pace-kept v millis most owed = ap (with_most millis) owed
+
+pub pace-is : (s : Setting) (v : Kept) (n : RulesNode) (millis : ℕ) → IsNode s v n → pace_in v millis ≡ pace_for s millis
+unfolding setting_of
+pace-is s v n millis is =
+    let most_is : option_map (λ (h : Heal). v.group.period) v.heal ≡ most_for s.heal s.group = most-is v.heal v.group ∙ ap (λ (x : Setting). most_for x.heal x.group) (sym is.setting) in
+    ap (with_most millis) most_is
+
+pub life-is : (pace due : Pace) (turns : ℕ) (leave : Bool) (last base : ℕ) (coming : List LinkAnswer) (readings : List ℕ) → pace ≡ due → base ≡ next_reading last readings
+    → turns_from pace base turns 1 (first_outlook coming base readings) ++ leaving_acts leave ≡ life_acts due turns leave coming last readings
 unfolding life_acts
-life-is millis turns leave last base coming readings is = ap (λ b. turns_from millis b turns 1 (first_outlook coming b readings) ++ leaving_acts leave) is
+life-is pace due turns leave last base coming readings paced is =
+    ap (λ b. turns_from pace b turns 1 (first_outlook coming b readings) ++ leaving_acts leave) is ∙ ap (λ p. life_acts p turns leave coming last readings) paced
 
 -- a turn ended the life
 pub life-ends : (s : Setting) (before : Before) (turns : List Act) (leave : Bool) (start : ServeState) (w : Standing) (e : ServeFault) → Serves s before turns start w (Err e) → Serves s before (turns ++ leaving_acts leave) start w (Err e)
@@ -304,8 +338,8 @@ life-leaves s before turns leave start w answer leaves h =
     subst (λ b. Serves s before (turns ++ leaving_acts b) start w answer) (sym leaves) (serves-last s before turns (Calls Leaves ∷ []) start w answer h)
 
 -- what holds of the pace that is kept holds of the one that was asked for
-pub at-pace : (P : ℕ → ℕ → Type 0) (m m1 b b1 : ℕ) → m ≡ m1 → b ≡ b1 → P m b → P m1 b1
-at-pace P m m1 b b1 millis base h = subst (λ x. P m1 x) base (subst (λ x. P x b) millis h)
+pub at-pace : (P : Pace → ℕ → Type 0) (m m1 : Pace) (b b1 : ℕ) → m ≡ m1 → b ≡ b1 → P m b → P m1 b1
+at-pace P m m1 b b1 pace base h = subst (λ x. P m1 x) base (subst (λ x. P x b) pace h)
 
 -- a buffer that is written over keeps its length
 pub length-kept : (k n : ℕ) (xs items : List ℕ) → k ≡ length items → length xs ≡ length items → length items ≡ n → length (take k (xs ++ drop (length xs) items)) ≡ n

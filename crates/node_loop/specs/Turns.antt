@@ -1,6 +1,8 @@
 -- The turns of a life: in each one receive and one reading of the clock, the turn's line, and the calls of the node that
 -- these bring. What they are depends on the answers of the link and the readings of the clock alone.
-use Rattle.std.specs.Prelude.{◌≡◌, ℕ, zero, suc, ◌+◌, ◌-◌, ◌/◌, ◌≤◌, ◌<◌, min, Bool, true, false, if◌then◌else◌, List, [], ◌∷◌, ◌++◌, filter, length, replicate, take, drop}
+use Rattle.std.specs.Prelude.{◌≡◌, ℕ, zero, suc, ◌+◌, ◌-◌, ◌/◌, ◌≤◌, ◌<◌, min, Bool, true, false, if◌then◌else◌, List, [], ◌∷◌, ◌++◌, Option, Some, None, filter, length, replicate, take, drop}
+use Rattle.ff_ids.specs.declared.Group.{Group}
+use Rattle.ff_ids.specs.Heals.{Heal}
 use Rattle.ports.specs.declared.link.LinkAnswer.{LinkAnswer}
 use Rattle.ports.specs.declared.link.LinkAnswer.TheVariants as answers
 use Rattle.ports.specs.Link.{next_of}
@@ -10,6 +12,8 @@ use Rattle.journal.specs.declared.turn.Heard.{Heard}
 use Rattle.journal.specs.declared.turn.Heard.TheVariants as heard
 use Rattle.journal.specs.declared.turn.Turn.{Turn}
 use Rattle.journal.specs.Turns.{turn_text}
+use Rattle.node_loop.specs.declared.turns.Pace.{Pace}
+use Rattle.node_rules.specs.Nodes.{Setting}
 use Rattle.node_rules.specs.Lives.{Input, Delivers, Ticks, Leaves}
 
 -- how many bytes a receive has room for: one more than the longest datagram has
@@ -43,17 +47,40 @@ ticks_of ticks = replicate ticks (Calls Ticks)
 abbrev pub turn_acts : Turn → List Act
 turn_acts turn = Receives ∷ Writes (turn_text turn) ∷ delivery_of turn.heard ++ ticks_of turn.ticks
 
+-- ---- the pace
+
+-- With the option that nodes come together again a turn keeps no more ticks than the period has.
+abbrev pub most_for : Option Heal → Group → Option ℕ
+most_for None g = None
+most_for (Some heal) g = Some g.period
+
+abbrev pub pace_for : Setting → ℕ → Pace
+pace_for s millis = record { millis = millis; most = most_for s.heal s.group }
+
 -- ---- the turns
 
 -- the most ticks that a turn makes
 abbrev pub most_ticks : ℕ
 most_ticks = 64
 
--- Since the base a tick is owed for each so many milliseconds. Of those not made yet a turn makes 64 at the most.
-abbrev pub ticks_owed : ℕ → ℕ → ℕ → ℕ → ℕ
-ticks_owed millis base made reading = min most_ticks ((reading - base) / millis - made)
+-- Since the base a tick is owed for each so many milliseconds.
+abbrev pub owed : Pace → ℕ → ℕ → ℕ → ℕ
+owed pace base made reading = (reading - base) / pace.millis - made
 
--- what is to come: the answers of the link; the last reading of the clock, and those to come; and how many ticks were made
+-- Where a pause is no silence, no more of them are kept at a turn than this; the others are forgotten.
+abbrev pub kept_of : Option ℕ → ℕ → ℕ
+kept_of None owed = owed
+kept_of (Some most) owed = min most owed
+
+-- Of those that are owed and kept a turn makes 64 at the most.
+abbrev pub ticks_owed : Pace → ℕ → ℕ → ℕ → ℕ
+ticks_owed pace base made reading = min most_ticks (kept_of pace.most (owed pace base made reading))
+
+abbrev pub ticks_forgotten : Pace → ℕ → ℕ → ℕ → ℕ
+ticks_forgotten pace base made reading = owed pace base made reading - kept_of pace.most (owed pace base made reading)
+
+-- what is to come: the answers of the link; the last reading of the clock, and those to come; and how many ticks
+-- were made or forgotten
 pub record Outlook : Type 0 where
   pub heard : List LinkAnswer
   pub reading : ℕ
@@ -63,43 +90,46 @@ pub record Outlook : Type 0 where
 abbrev pub reading_of : Outlook → ℕ
 reading_of o = next_reading o.reading o.readings
 
-abbrev pub ticks_in : ℕ → ℕ → Outlook → ℕ
-ticks_in millis base o = ticks_owed millis base o.made (reading_of o)
+abbrev pub ticks_in : Pace → ℕ → Outlook → ℕ
+ticks_in pace base o = ticks_owed pace base o.made (reading_of o)
 
-abbrev pub turn_in : ℕ → ℕ → ℕ → Outlook → Turn
-turn_in millis base number o = record { number = number; heard = heard_of (next_of o.heard); ticks = ticks_in millis base o }
+abbrev pub forgotten_in : Pace → ℕ → Outlook → ℕ
+forgotten_in pace base o = ticks_forgotten pace base o.made (reading_of o)
 
-abbrev pub after_turn : ℕ → ℕ → Outlook → Outlook
-after_turn millis base o =
+abbrev pub turn_in : Pace → ℕ → ℕ → Outlook → Turn
+turn_in pace base number o = record { number = number; heard = heard_of (next_of o.heard); ticks = ticks_in pace base o }
+
+abbrev pub after_turn : Pace → ℕ → Outlook → Outlook
+after_turn pace base o =
     record {
       heard = drop 1 o.heard;
       reading = reading_of o;
       readings = drop 1 o.readings;
-      made = o.made + ticks_in millis base o;
+      made = o.made + ticks_in pace base o + forgotten_in pace base o;
     }
 
--- Behind a turn no more ticks were made than the clock gives, if that was so before; and as many, unless the turn made
--- the most.
+-- Behind a turn no more ticks were made or forgotten than the clock gives, if that was so before; and as many, unless the
+-- turn made the most.
 abbrev pub TicksFollowTheClock : Type 0
-TicksFollowTheClock = (millis base : ℕ) (o : Outlook)
-    → (o.made ≤ (reading_of o - base) / millis → (after_turn millis base o).made ≤ (reading_of o - base) / millis)
-    × (ticks_in millis base o < most_ticks → (reading_of o - base) / millis ≤ (after_turn millis base o).made)
+TicksFollowTheClock = (pace : Pace) (base : ℕ) (o : Outlook)
+    → (o.made ≤ (reading_of o - base) / pace.millis → (after_turn pace base o).made ≤ (reading_of o - base) / pace.millis)
+    × (ticks_in pace base o < most_ticks → (reading_of o - base) / pace.millis ≤ (after_turn pace base o).made)
 
 -- so many turns, the first of which has this number
-abbrev pub turns_from : ℕ → ℕ → ℕ → ℕ → Outlook → List Act
-turns_from millis base zero number o = []
-turns_from millis base (suc left) number o =
-    turn_acts (turn_in millis base number o) ++ turns_from millis base left (number + 1) (after_turn millis base o)
+abbrev pub turns_from : Pace → ℕ → ℕ → ℕ → Outlook → List Act
+turns_from pace base zero number o = []
+turns_from pace base (suc left) number o =
+    turn_acts (turn_in pace base number o) ++ turns_from pace base left (number + 1) (after_turn pace base o)
 
 -- a node that is to leave does so behind its last turn
 abbrev pub leaving_acts : Bool → List Act
 leaving_acts leave = if leave then Calls Leaves ∷ [] else []
 
 -- The base is the first reading, and the turns are numbered from 1.
-unfoldable pub life_acts : ℕ → ℕ → Bool → List LinkAnswer → ℕ → List ℕ → List Act
-life_acts millis turns leave heard reading readings =
+unfoldable pub life_acts : Pace → ℕ → Bool → List LinkAnswer → ℕ → List ℕ → List Act
+life_acts pace turns leave heard reading readings =
     let base = next_reading reading readings in
-    turns_from millis base turns 1 (record { heard = heard; reading = base; readings = drop 1 readings; made = 0 }) ++ leaving_acts leave
+    turns_from pace base turns 1 (record { heard = heard; reading = base; readings = drop 1 readings; made = 0 }) ++ leaving_acts leave
 
 -- ---- how many ticks a life makes
 
@@ -119,10 +149,10 @@ reading_behind (suc turns) last readings = reading_behind turns (next_reading la
 abbrev pub ticks_due : ℕ → ℕ → ℕ → List ℕ → ℕ
 ticks_due millis turns last readings = (reading_behind (suc turns) last readings - next_reading last readings) / millis
 
--- Where the clock never falls, a life of so many turns makes no more ticks than its readings give, and just as many where
--- the last of its turns made fewer than the most.
+-- Where the clock never falls, a life of so many turns makes no more ticks than its readings give. It makes just as many where
+-- none is forgotten and the last of its turns made fewer than the most.
 abbrev pub LivesFollowTheClock : Type 0
-LivesFollowTheClock = (millis turns : ℕ) (leave : Bool) (heard : List LinkAnswer) (last : ℕ) (readings : List ℕ) → 1 ≤ millis → NeverFalls last readings
-    → (ticks_among (life_acts millis turns leave heard last readings) ≤ ticks_due millis turns last readings)
-    × (ticks_among (life_acts millis (suc turns) leave heard last readings) < ticks_among (life_acts millis turns leave heard last readings) + most_ticks
-    → ticks_among (life_acts millis (suc turns) leave heard last readings) ≡ ticks_due millis (suc turns) last readings)
+LivesFollowTheClock = (pace : Pace) (turns : ℕ) (leave : Bool) (heard : List LinkAnswer) (last : ℕ) (readings : List ℕ) → 1 ≤ pace.millis → NeverFalls last readings
+    → (ticks_among (life_acts pace turns leave heard last readings) ≤ ticks_due pace.millis turns last readings)
+    × (pace.most ≡ None → ticks_among (life_acts pace (suc turns) leave heard last readings) < ticks_among (life_acts pace turns leave heard last readings) + most_ticks
+    → ticks_among (life_acts pace (suc turns) leave heard last readings) ≡ ticks_due pace.millis (suc turns) last readings)

@@ -17,14 +17,15 @@ pub use fault::ServeFault;
 pub use serving::serve;
 pub use telling::tell_all;
 
-/// Behind a turn a life has made a tick for each `millis` milliseconds of its reading since the base, unless the turn made
-/// 64; and no more than those, if there were no more before the turn.
+/// Behind a turn a life has made or forgotten a tick for each `millis` milliseconds of its reading since the base, unless the
+/// turn made 64; and no more than those, if there were no more before the turn.
 pub fn ticks_follow_the_clock()
     ensures { TicksFollowTheClock }
 {}
 
 /// In so many turns a life makes no more ticks than its clock gives: one for each `millis` milliseconds from the base to the
-/// last reading. It makes just as many, unless its last turn made 64. Whether it leaves behind them changes nothing of that.
+/// last reading. It makes just as many where none may be forgotten, unless its last turn made 64. Whether it leaves
+/// behind them changes nothing of that.
 pub fn lives_follow_the_clock()
     ensures { LivesFollowTheClock }
 {}

@@ -5,7 +5,7 @@ ghost use Rattle.ports.specs.Count.{counted, Rose};
 ghost use Rattle.ports.specs.Link.{LinkState};
 ghost use Rattle.node_core.specs.Playing.{IsNode};
 ghost use Rattle.node_rules.specs.Nodes.{Setting, Node as RulesNode};
-ghost use Rattle.node_loop.specs.Turns.{life_acts};
+ghost use Rattle.node_loop.specs.Turns.{life_acts, pace_for};
 ghost use Rattle.node_loop.specs.Courses.{served_from};
 ghost use Rattle.node_loop.specs.Lines.{GoesOn};
 ghost use Rattle.node_loop.specs.Writing.{before_all, is_open_after, is_write_fault, standing};
@@ -14,7 +14,7 @@ ghost use Rattle.node_loop.specs.Serving.{Serves};
 use crate::calls;
 use crate::expecting::expect_certified;
 use crate::fault::ServeFault;
-use crate::turns::{Progress, turn};
+use crate::turns::{Pace, Progress, turn};
 use node_core::Node;
 use ports::{Clock, Disk, Link, Sink};
 use std::alloc::Global;
@@ -24,8 +24,10 @@ const ROOM: usize = 32_769;
 
 /// Runs a node for so many turns, and writes the journal of its life. In each turn it hears the link once and reads the
 /// clock once, writes the turn's line, delivers what was got, and makes the ticks that are owed: one for each `millis`
-/// milliseconds since the call began, of which a turn makes 64 at the most and leaves the rest to the next. Where it is to
-/// leave, it does so behind the last turn, once.
+/// milliseconds since the call began, of which a turn makes 64 at the most and leaves the rest to the next. Where the group
+/// has the option by which nodes come together again, a turn keeps no more of those owed than the period has, and forgets
+/// the others: behind a pause nobody is silent who wasn't heard in it. Where it is to leave, it does so behind the last
+/// turn, once.
 ///
 /// What the node reports is written: the lines up to and with that of a datagram in one piece, and those behind the last
 /// in one. The turn's line is in the first of these pieces where what was got has the kind of a ping, a pong or a
@@ -68,8 +70,8 @@ pub fn serve<D: Disk, L: Link, C: Clock, O: Sink>(
         → IsNode s node.old n → (L.state link.old).contents ≡ Some link_told
         → (C.state clock.old).coming ≡ Some readings
         → (sent : ℕ) × Serves s (before_all (O.state out.old).taken node.old.signer
-        (D.state disk.old).moments) (life_acts millis turns leave link_told.coming
-        (C.state clock.old).reading readings) (served_from n link_told)
+        (D.state disk.old).moments) (life_acts (pace_for s millis) turns leave
+        link_told.coming (C.state clock.old).reading readings) (served_from n link_told)
         (standing node.new (L.state link.new).contents (O.state out.new).taken
         (D.state disk.new).moments sent) result }
 {
@@ -77,9 +79,13 @@ pub fn serve<D: Disk, L: Link, C: Clock, O: Sink>(
     let Ok(mut buf) = vec![in alloc; 0u8; ROOM] else {
         return Err(ServeFault::OutOfMemory);
     };
+    let pace = Pace {
+        millis,
+        most: node.most_owed(),
+    };
     let mut progress = Progress {
         base,
-        millis,
+        pace,
         made: 0,
         sent: 0,
     };

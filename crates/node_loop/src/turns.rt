@@ -4,7 +4,7 @@ ghost use Rattle.std.specs.Prelude.{◌≡◌, ◌≢◌, ◌≤◌, ◌+◌, fa
 ghost use Rattle.ports.specs.Count.{counted, Rose};
 ghost use Rattle.node_rules.specs.Nodes.{Setting};
 ghost use Rattle.journal.specs.Turns.{turn_text};
-ghost use Rattle.node_loop.specs.Turns.{Outlook, after_turn, delivery_of, room, ticks_owed, turn_acts, turn_in};
+ghost use Rattle.node_loop.specs.Turns.{Outlook, after_turn, delivery_of, kept_of, room, ticks_forgotten, ticks_owed, turn_acts, turn_in};
 ghost use Rattle.node_loop.specs.Courses.{ServeState, served, with_feed};
 ghost use Rattle.node_loop.specs.Lines.{GoesOn};
 ghost use Rattle.node_loop.specs.Writing.{Before, Hears, Stands, WritesLine, has_failed, is_open_after, is_write_fault, standing};
@@ -23,29 +23,56 @@ use std::alloc::Global;
 /// The most ticks that one turn makes.
 const MOST_TICKS: u64 = 64;
 
+/// How the ticks of a life follow its clock.
+#[derive(Clone, Copy, Debug, PartialEq, Eq)]
+pub struct Pace {
+    /// A tick is owed for each so many milliseconds.
+    pub millis: u32,
+    /// Of those owed at a turn no more than this are kept, where a pause is no silence; the others are forgotten.
+    pub most: Option<u32>,
+}
+
+impl Pace {
+    /// How many of the ticks that are owed are kept.
+    fn kept(self, owed: u64) -> u64
+        ensures value { result ≡ kept_of self.most owed }
+        ensures few { result ≤ owed }
+    {
+        match self.most {
+            Some(most) => u64::from(most).min(owed),
+            None => owed,
+        }
+    }
+}
+
 /// How far a life has come.
 #[derive(Drop)]
 pub struct Progress {
     /// The clock's reading before the first turn.
     pub base: u64,
-    /// A tick is owed for each so many milliseconds since then.
-    pub millis: u32,
-    /// How many ticks were made.
+    /// How ticks follow the readings since then.
+    pub pace: Pace,
+    /// How many ticks were made or forgotten.
     pub made: u64,
     /// How many datagrams were sent.
     pub sent: u64,
 }
 
 impl Progress {
-    /// How many ticks the turn makes that reads the clock so. They count as made.
+    /// How many ticks the turn makes that reads the clock so. They count as made, and so do those that are forgotten.
     fn next_ticks(&mut self, reading: u64) -> u8
-        requires { 1 ≤ self.old.millis }
-        ensures ticks { result ≡ ticks_owed self.old.millis self.old.base self.old.made reading }
-        ensures made { self.new ≡ record self.old { made = self.old.made + result } }
+        requires { 1 ≤ self.old.pace.millis }
+        ensures ticks { result ≡ ticks_owed self.old.pace self.old.base self.old.made reading }
+        ensures made { self.new ≡ record self.old {
+          made = self.old.made + result
+              + ticks_forgotten self.old.pace self.old.base self.old.made reading;
+        } }
     {
-        let due = reading.saturating_sub(self.base) / u64::from(self.millis);
-        let ticks = due.saturating_sub(self.made).min(MOST_TICKS);
-        self.made += ticks;
+        let due = reading.saturating_sub(self.base) / u64::from(self.pace.millis);
+        let owed = due.saturating_sub(self.made);
+        let kept = self.pace.kept(owed);
+        let ticks = kept.min(MOST_TICKS);
+        self.made += ticks + (owed - kept);
         ticks as u8
     }
 }
@@ -138,7 +165,7 @@ pub fn turn<D: Disk, L: Link, C: Clock, O: Sink>(
 ) -> Result<(), ServeFault>
     requires going { node.old.ended ≡ false }
     requires open { (O.state out.old).is_open ≡ true }
-    requires some { 1 ≤ progress.old.millis }
+    requires some { 1 ≤ progress.old.pace.millis }
     requires room { length buf.old ≡ room }
     ensures open { (O.state out.new).is_open ≡ is_open_after result }
     ensures going { OnOk result (node.new.ended ≡ false) }
@@ -148,7 +175,7 @@ pub fn turn<D: Disk, L: Link, C: Clock, O: Sink>(
     ensures store { IfErr result (λ e. e ≡ ServeFault.StoreFault
         → Rose (D.state disk.old).faults (D.state disk.new).faults) }
     ensures kept { (progress.new.base ≡ progress.old.base)
-        × (progress.new.millis ≡ progress.old.millis) }
+        × (progress.new.pace ≡ progress.old.pace) }
     ensures closed { OnOk result (node.new.signer.closed ≡ node.old.signer.closed) }
     ensures spends { GoesOn node.old.signer node.new.signer
         (D.state disk.old).moments (D.state disk.new).moments
@@ -158,15 +185,15 @@ pub fn turn<D: Disk, L: Link, C: Clock, O: Sink>(
         → Stands s before (standing node.old (L.state link.old).contents (O.state out.old).taken
         (D.state disk.old).moments progress.old.sent) r
         → Sees o r (C.state clock.old).reading (C.state clock.old).coming progress.old.made
-        → Serves s before (turn_acts (turn_in progress.old.millis progress.old.base number o)) r
+        → Serves s before (turn_acts (turn_in progress.old.pace progress.old.base number o)) r
         (standing node.new (L.state link.new).contents (O.state out.new).taken
         (D.state disk.new).moments progress.new.sent) result }
     ensures sees { (s : Setting) (before : Before) (r : ServeState) (o : Outlook)
         → Stands s before (standing node.old (L.state link.old).contents (O.state out.old).taken
         (D.state disk.old).moments progress.old.sent) r
         → Sees o r (C.state clock.old).reading (C.state clock.old).coming progress.old.made
-        → OnOk result (Sees (after_turn progress.old.millis progress.old.base o)
-        (served s (turn_acts (turn_in progress.old.millis progress.old.base number o)) r)
+        → OnOk result (Sees (after_turn progress.old.pace progress.old.base o)
+        (served s (turn_acts (turn_in progress.old.pace progress.old.base number o)) r)
         (C.state clock.new).reading (C.state clock.new).coming progress.new.made) }
 {
     let Ok(heard) = hear(alloc, link, buf) else {

@@ -31,9 +31,9 @@ use Rattle.records.specs.declared.Body.TheVariants.{Accusation}
 use Rattle.journal.specs.declared.event.What.TheVariants as told
 use Rattle.node_rules.specs.Nodes.{Setting, Node, state_of, neighbours_and}
 use Rattle.node_rules.specs.Calls.{Call, tells, signs, signs_and_sends, wants, is_used_up, own_record}
-use Rattle.node_rules.specs.Ticking.{monitored_rings, ring_for, is_by, has_accused, wants_accusation, accuses, accuses_all, is_due, watched_by, passed, probed_at, silent_at}
+use Rattle.node_rules.specs.Ticking.{monitored_rings, ring_for, is_by, has_accused, wants_accusation, accuses, accuses_all, is_due, watched_by, passed, probed_at, spread_at, silent_at}
 use Rattle.node_rules.specs.Accusing.{KeepsOwnAgainst, MayAccuse}
-use Rattle.node_rules.proofs.Small.{node-sends_to_all, state-signs}
+use Rattle.node_rules.proofs.Small.{node-sends_to_all, state-signs, state-spreads}
 use Rattle.datagram.specs.declared.Datagram.TheVariants as kinds
 
 -- ---- what holds of the state of every life
@@ -346,6 +346,10 @@ pub state-probed : (s : Setting) (n : Node) → state_of s (probed_at s n).node 
 unfolding probed_at state_of
 state-probed s n = refl
 
+pub state-spread : (s : Setting) (n : Node) → state_of s (spread_at s n).node ≡ state_of s (passed s n).node
+unfolding spread_at
+state-spread s n = state-spreads s (probed_at s n) ∙ state-probed s n
+
 -- ---- the members that are silent at a tick
 
 pub silent-watched : (s : Setting) (n : Node) (m : ℕ) → In (silent_at s n) m → is_watched s.group.t (state_of s (passed s n).node) s.me m ≡ true
@@ -367,11 +371,11 @@ In-middle before m behind = In-append_right before (m ∷ behind) m (inl refl)
 
 -- ---- the law
 
-watched-still : (s : Setting) (n : Node) (before : List ℕ) (m : ℕ) (behind : List ℕ) → silent_at s n ≡ before ++ m ∷ behind → is_watched s.group.t (state_of s (accuses_all s before (probed_at s n)).node) s.me m ≡ true
+watched-still : (s : Setting) (n : Node) (before : List ℕ) (m : ℕ) (behind : List ℕ) → silent_at s n ≡ before ++ m ∷ behind → is_watched s.group.t (state_of s (accuses_all s before (spread_at s n)).node) s.me m ≡ true
 watched-still s n before m behind silent =
-    let k = only_kept-accuses_all s before (probed_at s n) in
+    let k = only_kept-accuses_all s before (spread_at s n) in
     let then : is_watched s.group.t (state_of s (passed s n).node) s.me m ≡ true = silent-watched s n m (subst (λ xs. In xs m) (sym silent) (In-middle before m behind)) in
-    ap (λ (x : State). is_watched s.group.t x s.me m) k.1 ∙ ap (λ (x : State). is_watched s.group.t x s.me m) (state-probed s n) ∙ then
+    ap (λ (x : State). is_watched s.group.t x s.me m) k.1 ∙ ap (λ (x : State). is_watched s.group.t x s.me m) (state-spread s n) ∙ then
 
 pub In-with_kept_here : (p : AccBody × ℕ) (xs : List (AccBody × ℕ)) → In (with_kept p xs) p
 In-with_kept_here p [] = inl refl
@@ -406,10 +410,10 @@ kept-then s c m none left may =
     same_body a b h = cc
 
 pub own-accepted : (s : Setting) (n : Node) (before : List ℕ) (m : ℕ) (behind : List ℕ) → silent_at s n ≡ before ++ m ∷ behind
-    → has_accused s (state_of s (accuses_all s before (probed_at s n)).node) m ≡ false
-    → MayAccuse s (state_of s (accuses_all s before (probed_at s n)).node) m
-    × (is_used_up s (accuses_all s before (probed_at s n)).node ≡ false → KeepsOwnAgainst s (state_of s (accuses_all s (before ++ m ∷ []) (probed_at s n)).node) m)
+    → has_accused s (state_of s (accuses_all s before (spread_at s n)).node) m ≡ false
+    → MayAccuse s (state_of s (accuses_all s before (spread_at s n)).node) m
+    × (is_used_up s (accuses_all s before (spread_at s n)).node ≡ false → KeepsOwnAgainst s (state_of s (accuses_all s (before ++ m ∷ []) (spread_at s n)).node) m)
 own-accepted s n before m behind silent none =
-    let c : Call = accuses_all s before (probed_at s n) in
+    let c : Call = accuses_all s before (spread_at s n) in
     let may : MayAccuse s (state_of s c.node) m = may_accuse s (state_of s c.node) m (lively s c.node) (watched-still s n before m behind silent) none in
-    (may, λ left. subst (λ (x : Call). KeepsOwnAgainst s (state_of s x.node) m) (sym (accuses_all-push s before m (probed_at s n))) (kept-then s c m none left may))
+    (may, λ left. subst (λ (x : Call). KeepsOwnAgainst s (state_of s x.node) m) (sym (accuses_all-push s before m (spread_at s n))) (kept-then s c m none left may))

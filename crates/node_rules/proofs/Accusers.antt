@@ -18,17 +18,19 @@ use Rattle.validate.specs.Table.{signature_fault}
 use Rattle.node_rules.specs.Nodes.{Setting, Node, state_of, certificate_of, public_key_of}
 use Rattle.node_rules.specs.Refusals.{refusal, refusal_of}
 use Rattle.node_rules.specs.Calls.{Call, begun, lives, takes, spends, signs, sends, own_record, is_used_up}
-use Rattle.node_rules.specs.Deliveries.{answer_to, answering_note}
+use Rattle.node_rules.specs.Deliveries.{answer_to, answering_note, returning_note, may_rise}
 use Rattle.node_rules.specs.Starting.{blank, opened, started, first_note}
 use Rattle.node_rules.specs.Leaving.{leaving, leaving_note}
 use Rattle.node_rules.specs.Lives.{Input, call_of, after_calls}
 use Rattle.node_rules.specs.Vouching.{OwnSignaturesVerify}
 use Rattle.node_rules.specs.OneExchange.{Life, node_after, IsCorrect, IsSignedBy, HoldsItsLife}
 use Rattle.node_rules.proofs.OwnNote.{option_or-none}
+use Rattle.node_rules.proofs.Carrying.{AsksBack}
 use Rattle.node_rules.proofs.Keeping.{Keeps, keeps-call}
 use Rattle.node_rules.proofs.Growth.{Follows, follows-itself, following, follows-signs, note-is_none}
-use Rattle.node_rules.proofs.Gathering.{held-lives, held-takes}
+use Rattle.node_rules.proofs.Upholding.{was-lives, was-takes}
 use Rattle.node_rules.proofs.KeptNodes.{held-kept}
+use Rattle.node_rules.proofs.Removed.{out-life}
 use Rattle.node_rules.proofs.Correctness.{KeepsAll, Verifies, verified, key-follows, signed-spends, index-left, keeping-all, all-started, Certifies, takes_all}
 
 abbrev Accused : Setting → Node → Type 0
@@ -46,9 +48,9 @@ signed-later s n later m r f k = record { key = k.key; author_is = key-follows s
 
 accused-takes : (s : Setting) (r : Record) (c : Call) → Follows s c.node (takes s r c).node → ((a : AccBody) → r.body ≡ Accusation a → IsSignedBy s c.node a.accuser r) → Accused s c.node → Accused s (takes s r c).node
 accused-takes s r c f here h = λ k x a is says.
-    elim (held-takes s r c k x is) [
+    elim (was-takes s r c k x is) [
       | inl e ↦ signed-later s c.node (takes s r c).node a.accuser x f (subst (IsSignedBy s c.node a.accuser) e (here a (ap (λ (y : Record). y.body) e ∙ says)))
-      | inr before ↦ signed-later s c.node (takes s r c).node a.accuser x f (h k x a before says)
+      | inr before ↦ signed-later s c.node (takes s r c).node a.accuser x f (h before.0 x a before.1 says)
     ]
 
 -- an accepted accusation verifies under its accuser's key
@@ -85,14 +87,23 @@ same_accusation : (x a : AccBody) → Accusation x ≡ Accusation a → x ≡ a
 same_accusation x a e = cc
 
 accuses-answers : (s : Setting) (own : Key) (r : Record) (a : AccBody) (c : Call) → 1 ≤ s.group.t → OwnSignaturesVerify s own → refusal s c.node r ≡ None → r.body ≡ Accusation a → eqb a.accused s.me ≡ true
-    → is_used_up s (takes s r c).node ≡ false → Accuses s own c.node → Accuses s own (signs s (answer_to s (takes s r c).node.stored a) (takes s r c)).node
-accuses-answers s own r a c some sign fine is me left h =
+    → may_rise s.heal c.node ≡ true → is_used_up s (takes s r c).node ≡ false → Accuses s own c.node → Accuses s own (signs s (answer_to s (takes s r c).node.stored a) (takes s r c)).node
+accuses-answers s own r a c some sign fine is me may left h =
     let c1 : Call = takes s r c in
     let h1 : Accuses s own c1.node = accuses-takes s own r c some sign fine h in
     let b : Body = answer_to s c1.node.stored a in
     record {
-      all = (keeping-all s own some sign).answered r a c fine is me left h.all;
+      all = (keeping-all s own some sign).answered r a c fine is me may left h.all;
       accused = accused-signs s b c1 (follows-signs s c1.node b c1 (note-is_none (answering_note s c1.node.stored a)) (follows-itself s c1.node)) (λ x e. absurd (not_an_accusation (answering_note s c1.node.stored a) x e)) h1.accused;
+    }
+
+accuses-returns : (s : Setting) (own : Key) (r : Record) (a : AccBody) (c : Call) → 1 ≤ s.group.t → OwnSignaturesVerify s own → AsksBack s c.node r a → may_rise s.heal c.node ≡ true → is_used_up s c.node ≡ false
+    → Accuses s own c.node → Accuses s own (signs s (Note (returning_note s c.node.stored)) c).node
+accuses-returns s own r a c some sign asks may left h =
+    let x : NoteBody = returning_note s c.node.stored in
+    record {
+      all = (keeping-all s own some sign).returned r a c asks may left h.all;
+      accused = accused-signs s (Note x) c (follows-signs s c.node (Note x) c (note-is_none x) (follows-itself s c.node)) (λ a e. absurd (not_an_accusation x a e)) h.accused;
     }
 
 accuses-accuses : (s : Setting) (own : Key) (a : AccBody) (c : Call) → 1 ≤ s.group.t → OwnSignaturesVerify s own → a.accuser ≡ s.me → is_used_up s c.node ≡ false → Accuses s own c.node → Accuses s own (signs s (Accusation a) c).node
@@ -122,7 +133,7 @@ accuses-passes s own c some sign h =
     let f : Follows s c.node later = (following s c.node).passed c (follows-itself s c.node) in
     record {
       all = (keeping-all s own some sign).passed c h.all;
-      accused = λ k x a is says. signed-later s c.node later a.accuser x f (h.accused k x a (held-lives s Ticks c k x is) says);
+      accused = λ k x a is says. let before = was-lives s Ticks c k x is in signed-later s c.node later a.accuser x f (h.accused before.0 x a before.1 says);
     }
 
 accuses-probed : (s : Setting) (own : Key) (c : Call) (p : History) → 1 ≤ s.group.t → OwnSignaturesVerify s own → Accuses s own c.node → Accuses s own (record c.node { probes = p })
@@ -131,6 +142,24 @@ accuses-probed s own c p some sign h =
     let f : Follows s c.node later = (following s c.node).probed p c (follows-itself s c.node) in
     record {
       all = (keeping-all s own some sign).probed p c h.all;
+      accused = λ k x a is says. signed-later s c.node later a.accuser x f (h.accused k x a is says);
+    }
+
+accuses-spanned : (s : Setting) (own : Key) (c : Call) → 1 ≤ s.group.t → OwnSignaturesVerify s own → Accuses s own c.node → Accuses s own (record c.node { since = c.node.stored.epoch })
+accuses-spanned s own c some sign h =
+    let later : Node = record c.node { since = c.node.stored.epoch } in
+    let f : Follows s c.node later = (following s c.node).spanned c (follows-itself s c.node) in
+    record {
+      all = (keeping-all s own some sign).spanned c h.all;
+      accused = λ k x a is says. signed-later s c.node later a.accuser x f (h.accused k x a is says);
+    }
+
+accuses-spread : (s : Setting) (own : Key) (c : Call) → 1 ≤ s.group.t → OwnSignaturesVerify s own → Accuses s own c.node → Accuses s own (record c.node { news = [] })
+accuses-spread s own c some sign h =
+    let later : Node = record c.node { news = [] } in
+    let f : Follows s c.node later = (following s c.node).spread c (follows-itself s c.node) in
+    record {
+      all = (keeping-all s own some sign).spread c h.all;
       accused = λ k x a is says. signed-later s c.node later a.accuser x f (h.accused k x a is says);
     }
 
@@ -144,12 +173,15 @@ accusing s own some sign =
       told = λ what c other h. h;
       sent = λ d c to h. accuses-sends s own d c to h;
       taken = λ r c fine h. accuses-takes s own r c some sign fine h;
-      answered = λ r a c fine is me left h. accuses-answers s own r a c some sign fine is me left h;
+      answered = λ r a c fine is me may left h. accuses-answers s own r a c some sign fine is me may left h;
+      returned = λ r a c asks may left h. accuses-returns s own r a c some sign asks may left h;
       accused = λ a c by left h. accuses-accuses s own a c some sign by left h;
       departed = λ c left h. accuses-leaves s own c some sign left h;
       stopped = λ c h. h;
       passed = λ c h. accuses-passes s own c some sign h;
       probed = λ p c h. accuses-probed s own c p some sign h;
+      spanned = λ c h. accuses-spanned s own c some sign h;
+      spread = λ c h. accuses-spread s own c some sign h;
     }
 
 accuses-calls : (s : Setting) (own : Key) (n : Node) (inputs : List Input) → 1 ≤ s.group.t → OwnSignaturesVerify s own → Accuses s own n → Accuses s own (after_calls s n inputs)
@@ -163,7 +195,7 @@ abbrev HoldsNoAccusation : Node → Type 0
 HoldsNoAccusation n = (k : RecordKey) (r : Record) (a : AccBody) → n.held k ≡ Some r → r.body ≡ Accusation a → ⊥
 
 none-takes : (s : Setting) (r : Record) (c : Call) → ((a : AccBody) → r.body ≡ Accusation a → ⊥) → HoldsNoAccusation c.node → HoldsNoAccusation (takes s r c).node
-none-takes s r c other h = λ k x a is says. elim (held-takes s r c k x is) [ inl e ↦ other a (ap (λ (y : Record). y.body) e ∙ says) | inr before ↦ h k x a before says ]
+none-takes s r c other h = λ k x a is says. elim (was-takes s r c k x is) [ inl e ↦ other a (ap (λ (y : Record). y.body) e ∙ says) | inr before ↦ h before.0 x a before.1 says ]
 
 not_certified : (x : CertBody) (a : AccBody) → Certificate x ≡ Accusation a → ⊥
 not_certified x a e = cc
@@ -199,4 +231,4 @@ holds-life l inputs is =
     } in
     let here : Accuses s l.own (node_after l inputs) = accuses-calls s l.own (started s l.seed l.certificates l.stored).node inputs is.rings.some is.signs began in
     let u = here.all.upholds in
-    record { filed = u.filed; notes = u.notes; members = u.members; certificates = u.certificates; signed = u.signed; kept = held-kept s l.seed l.certificates l.stored inputs is.kit.all; accused = here.accused }
+    record { filed = u.filed; notes = u.notes; members = u.members; certificates = u.certificates; signed = u.signed; kept = held-kept s l.seed l.certificates l.stored inputs is.kit.all; accused = here.accused; out = out-life s l.seed l.certificates l.stored inputs }

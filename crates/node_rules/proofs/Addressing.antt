@@ -1,6 +1,6 @@
 -- Datagrams go to other members whose certificates are held, and to no one else.
 use Rattle.std.proofs.Common.{◌≡◌, ℕ, zero, suc, ◌+◌, ◌%◌, Bool, true, false, not, cond, eqb, List, [], ◌∷◌, ◌++◌, Option, Some, None, is_some, map, filter, inl, inr, refl, ap, sym, ◌∙◌, subst, arith}
-use Rattle.std.specs.Prelude.{Result, Ok, Err, fold, find}
+use Rattle.std.specs.Prelude.{◌/◌, Result, Ok, Err, fold, find}
 use Rattle.std.specs.List.{AllByRecursion, slice_get}
 use Rattle.std.specs.Option.{option_and_then, option_or}
 use Rattle.std.proofs.lemmas.Bool.{cond_both, false≢true, and_parts, and_from, not-true, not_from_false}
@@ -12,6 +12,8 @@ use Rattle.ff_ids.specs.declared.Fault.{Fault}
 use Rattle.ff_ids.specs.declared.summary.Summary.{Summary}
 use Rattle.ff_ids.specs.declared.summary.RecordKey.{RecordKey}
 use Rattle.ff_ids.specs.declared.summary.RecordKey.TheVariants as keys
+use Rattle.ff_ids.specs.Heals.{Heal}
+use Rattle.ff_ids.specs.Lives.{opening, after}
 use Rattle.ff_ids.specs.Masks.{ring_count}
 use Rattle.ff_ids.specs.Rings.{Key, others, none_between}
 use Rattle.ff_ids.specs.Views.{State, all_numbers, is_member, in_view, view, key_of, monitor, successor}
@@ -22,7 +24,7 @@ use Rattle.life_laws.proofs.NoteLemmas.{newest-fits}
 use Rattle.life_laws.proofs.ViewLemmas.{joined-viewed}
 use Rattle.detector.specs.declared.watch.Watched.{Watched}
 use Rattle.detector.specs.Watching.{is_watched, as_watched}
-use Rattle.detector.specs.Silence.{History, counts, ponged, pings_from, sent_in}
+use Rattle.detector.specs.Silence.{counts, pings_from, sent_in}
 use Rattle.records.specs.declared.Body.{Body}
 use Rattle.records.specs.declared.Body.TheVariants.{Certificate, Note, Accusation}
 use Rattle.records.specs.declared.CertBody.{CertBody}
@@ -36,12 +38,12 @@ use Rattle.datagram.specs.declared.Datagram.TheVariants as kinds
 use Rattle.datagram.specs.Grammar.{read_of}
 use Rattle.journal.specs.declared.event.What as whats
 use Rattle.journal.specs.declared.event.What.TheVariants as told
-use Rattle.node_rules.specs.Nodes.{Setting, Node, state_of, event_of, certificate_in, certificate_of, is_certified, certified, neighbours, neighbours_and}
+use Rattle.node_rules.specs.Nodes.{Setting, Node, Holding, state_of, event_of, certificate_in, certificate_of, is_certified, certified, neighbours, neighbours_and}
 use Rattle.node_rules.specs.Pages.{page, partner, page_number, lacking}
 use Rattle.node_rules.specs.Refusals.{refusal}
 use Rattle.node_rules.specs.Calls.{Call, begun, tells, lives, takes, spends, signs, signs_and_sends, wants, stops, sends, sends_to_all, is_used_up, own_record}
-use Rattle.node_rules.specs.Deliveries.{answer_to, answers, judged, handles, handles_all, is_other, gives, replies, exchanges, pinged, ponged_by, hears, delivered}
-use Rattle.node_rules.specs.Ticking.{accusation_on, ring_for, has_accused, wants_accusation, accuses, accuses_all, is_due, silent_in, watched_by, pings_in, probes_after, pings_all, summary_to, round_of, passed, probed_at, due_tick, ticked}
+use Rattle.node_rules.specs.Deliveries.{asked_with, gives_note, settles, judged, handles, handles_all, is_other, gives, replies, exchanges, pinged, ponged_by, hears, delivered}
+use Rattle.node_rules.specs.Ticking.{accusation_on, ring_for, has_accused, wants_accusation, accuses, accuses_all, fresh, spreads_all, spreads, is_due, silent_in, watched_by, pings_in, pings_all, summary_to, round_of, passed, probed_at, spread_at, due_tick, ticked}
 use Rattle.node_rules.specs.Starting.{blank, opened, started, first_note}
 use Rattle.node_rules.specs.Leaving.{leaving, leaves, left}
 use Rattle.node_rules.specs.Lives.{Input, Delivers, Ticks, call_of, after_calls, Leaves}
@@ -49,7 +51,7 @@ use Rattle.node_rules.specs.OnRings.{Succeeds}
 use Rattle.node_rules.specs.OneExchange.{Life, node_after, IsCorrect, IsWithinRanges, IsOfBytes}
 use Rattle.node_rules.specs.Addressing.{AddressesOthers, HasPort}
 use Rattle.node_rules.proofs.Called.{delivered_until, ticked_until, left_until}
-use Rattle.node_rules.proofs.Small.{state_of-lives, state-takes, node-sends}
+use Rattle.node_rules.proofs.Small.{state_of-lives, state-takes, node-sends, node-spreads}
 use Rattle.node_rules.proofs.Accusations.{found, found-number, lively, watches, listed-viewed}
 use Rattle.node_rules.proofs.RingLemmas.{ring-lowest, neighbours-are, accused-addressed}
 use Rattle.node_rules.proofs.Growth.{held-takes, certificate-takes, certificate-lives, certificate-signs, note-is_none, accusation-is_none, Follows, follows-itself, following}
@@ -91,16 +93,12 @@ addresses-tells s what c h = record { members = h.members; sent = h.sent }
 addresses-stops : (s : Setting) (c : Call) → Addresses s c → Addresses s (stops s c)
 addresses-stops s c h = record { members = h.members; sent = h.sent }
 
-member-probes : (s : Setting) (n : Node) (p : History) (m : ℕ) → is_member (state_of s (record n { probes = p })) m ≡ is_member (state_of s n) m
-unfolding state_of
-member-probes s n p m = refl
-
-certificate-probes : (n : Node) (p : History) (m : ℕ) → certificate_of (record n { probes = p }) m ≡ certificate_of n m
-unfolding certificate_of
-certificate-probes n p m = refl
-
-addresses-probes : (s : Setting) (p : History) (c : Call) → Addresses s c → Addresses s (record c { node = record c.node { probes = p } })
-addresses-probes s p c h = addresses-same s c (record c { node = record c.node { probes = p } }) (member-probes s c.node p) (certificate-probes c.node p) refl h
+-- The same life, records and datagrams.
+addresses-apart : (s : Setting) (c d : Call) → d.node.lived ≡ c.node.lived → d.node.held ≡ c.node.held → d.sent ≡ c.sent → Addresses s c → Addresses s d
+unfolding state_of certificate_of
+addresses-apart s c d lived held sent h =
+    addresses-same s c d (λ m. ap (λ (xs : List Event). is_member (after s.group (opening []) xs) m) lived)
+    (λ m. ap (λ (x : Holding). option_and_then (λ r. certificate_in r.body) (x (keys.Certificate m))) held) sent h
 
 -- ---- one event, one record
 
@@ -168,17 +166,9 @@ addresses-body s r (Accusation a) c is h =
 addresses-takes : (s : Setting) (r : Record) (c : Call) → Addresses s c → Addresses s (takes s r c)
 addresses-takes s r c h = addresses-body s r r.body c refl h
 
-member-spends : (s : Setting) (b : Body) (c : Call) (m : ℕ) → is_member (state_of s (spends s b c).node) m ≡ is_member (state_of s c.node) m
-unfolding state_of
-member-spends s b c m = refl
-
-certificate-spends : (s : Setting) (b : Body) (c : Call) (m : ℕ) → certificate_of (spends s b c).node m ≡ certificate_of c.node m
-unfolding certificate_of
-certificate-spends s b c m = refl
-
 addresses-signs : (s : Setting) (b : Body) (c : Call) → Addresses s c → Addresses s (signs s b c)
 unfolding signs
-addresses-signs s b c h = addresses-takes s (own_record s c.node b) (spends s b c) (addresses-same s c (spends s b c) (member-spends s b c) (certificate-spends s b c) refl h)
+addresses-signs s b c h = addresses-takes s (own_record s c.node b) (spends s b c) (addresses-apart s c (spends s b c) refl refl refl h)
 
 -- ---- datagrams
 
@@ -273,18 +263,16 @@ addresses-wants s works body addressees c known h =
 
 -- ---- records
 
-addresses-answers : (s : Setting) (works : Bool) (b : Body) (c : Call) → Addresses s c → Addresses s (answers works s b c)
-addresses-answers s works (Certificate x) c h = h
-addresses-answers s works (Note x) c h = h
-addresses-answers s works (Accusation a) c h =
-    let b : Body = answer_to s c.node.stored a in
-    cond_both (eqb a.accused s.me) (wants works s b (neighbours s) c) c (Addresses s) (λ me. addresses-wants s works b (neighbours s) c (λ h1 to i. neighbour-other s (signs s b c).node to h1.members i) h) (λ other. h)
+addresses-gives_note : (s : Setting) (works : Bool) (note : Option NoteBody) (c : Call) → Addresses s c → Addresses s (gives_note works s note c)
+addresses-gives_note s works None c h = h
+addresses-gives_note s works (Some note) c h = addresses-wants s works (Note note) (neighbours s) c (λ h1 to i. neighbour-other s (signs s (Note note) c).node to h1.members i) h
+
+addresses-settles : (s : Setting) (f : Option Fault) (r : Record) (c : Call) → Addresses s c → Addresses s (settles s f r c)
+addresses-settles s (Some f) r c h = addresses-tells s (told.Took r.body (Some f)) c h
+addresses-settles s None r c h = let what : whats.What = told.Took r.body None in addresses-takes s r (tells s what c) (addresses-tells s what c h)
 
 addresses-judged : (s : Setting) (works : Bool) (f : Option Fault) (r : Record) (c : Call) → Addresses s c → Addresses s (judged works s f r c)
-addresses-judged s works (Some f) r c h = addresses-tells s (told.Took r.body (Some f)) c h
-addresses-judged s works None r c h =
-    let c0 : Call = tells s (told.Took r.body None) c in
-    addresses-answers s works r.body (takes s r c0) (addresses-takes s r c0 (addresses-tells s (told.Took r.body None) c h))
+addresses-judged s works f r c h = addresses-gives_note s works (asked_with s c.node f r.body r) (settles s f r c) (addresses-settles s f r c h)
 
 addresses-handles : (s : Setting) (works : Bool) (c : Call) (r : Record) → Addresses s c → Addresses s (handles works s c r)
 unfolding handles
@@ -317,15 +305,15 @@ addresses-pinged s from nonce c h =
 addresses-ponged : (s : Setting) (from nonce : ℕ) (c : Call) → Addresses s c → Addresses s (ponged_by s from nonce c)
 addresses-ponged s from nonce c h =
     let what : whats.What = told.Pong from nonce (counts c.node.probes from nonce) in
-    addresses-probes s (ponged c.node.probes from nonce) (tells s what c) (addresses-tells s what c h)
+    addresses-apart s (tells s what c) (ponged_by s from nonce c) refl refl refl (addresses-tells s what c h)
 
 addresses-exchanges : (s : Setting) (from : ℕ) (flag : Bool) (theirs : Summary) (c : Call) → Addresses s c → Addresses s (exchanges s from flag theirs c)
 addresses-exchanges s from flag theirs c h =
     let c1 : Call = tells s (told.Summary from theirs.page flag) c in
     let h1 : Addresses s c1 = addresses-tells s (told.Summary from theirs.page flag) c h in
-    let c2 : Call = gives s from (lacking c.node theirs) c1 in
+    let c2 : Call = gives s from (lacking c.node from theirs) c1 in
     cond_both (is_other s c.node from) (replies s from flag theirs.page c2) c1 (Addresses s)
-    (λ yes. addresses-replies s from flag theirs.page c2 (other-gives s from (lacking c.node theirs) c1 yes) (addresses-gives s from (lacking c.node theirs) c1 yes h1))
+    (λ yes. addresses-replies s from flag theirs.page c2 (other-gives s from (lacking c.node from theirs) c1 yes) (addresses-gives s from (lacking c.node from theirs) c1 yes h1))
     (λ no. h1)
 
 addresses-hears : (s : Setting) (d : Result Datagram ℕ) (c : Call) → Addresses s c → Addresses s (hears s d c)
@@ -375,23 +363,42 @@ In-at [] place x h = cc
 In-at (y ∷ ys) zero x h = inl (cc)
 In-at (y ∷ ys) (suc k) x h = inr (In-at ys k x h)
 
--- the partner is the successor on a ring, or another of those with a certificate
+-- the others with a certificate
+listed-other : (s : Setting) (n : Node) (m : ℕ) → In (gossip.others (certified n) s.me) m → is_other s n m ≡ true
+listed-other s n m i =
+    let f = In-from_filter (λ x. not (eqb x s.me)) (certified n) m i in
+    and_from _ _ (In-from_filter (is_certified n) all_numbers m f.0).1 f.1
+
+-- of these is who is out of the view, and the round is for
+outsider-other : (s : Setting) (n : Node) (heal : Option Heal) (round to : ℕ) → gossip.outsider_with heal (state_of s n) (certified n) s.me round ≡ Some to → is_other s n to ≡ true
+outsider-other s n None round to h = cc
+outsider-other s n (Some heal) round to h =
+    let st : State = state_of s n in
+    let share : ℕ = gossip.share heal st in
+    let out : List ℕ = gossip.outsiders st (certified n) s.me in
+    cond_both (gossip.is_outward share round) (gossip.in_turn out (round / share)) None (λ o. o ≡ Some to → is_other s n to ≡ true)
+    (λ yes e. listed-other s n to (In-from_filter (λ m. not (in_view st m)) (gossip.others (certified n) s.me) to (In-at out _ to e)).0)
+    (λ no e. cc)
+    h
+
+-- the partner is out of the view, the successor on a ring, or another of those with a certificate
 partner-other : (s : Setting) (n : Node) (round to : ℕ) → AreCertified s n → partner s n round ≡ Some to → is_other s n to ≡ true
 unfolding partner
-partner-other s n round to members h = by (successor (state_of s n) ring s.me) refl h
+partner-other s n round to members h = by (gossip.outsider_with s.heal (state_of s n) (certified n) s.me round) refl h
   where
+    plain : ℕ
+    plain = gossip.plain_round s.heal (state_of s n) round
+
     ring : ℕ
-    ring = round % ring_count s.group.t
+    ring = plain % ring_count s.group.t
 
-    same : (a b : ℕ) → Some a ≡ Some b → a ≡ b
-    same a b e = cc
+    in_plain : (o : Option ℕ) → successor (state_of s n) ring s.me ≡ o → option_or o (gossip.in_turn (gossip.others (certified n) s.me) plain) ≡ Some to → is_other s n to ≡ true
+    in_plain (Some v) e is = successor-other s n ring to members (e ∙ is)
+    in_plain None e is = listed-other s n to (In-at (gossip.others (certified n) s.me) _ to is)
 
-    by : (o : Option ℕ) → successor (state_of s n) ring s.me ≡ o → option_or o (gossip.in_turn (gossip.others (certified n) s.me) round) ≡ Some to → is_other s n to ≡ true
-    by (Some v) e is = successor-other s n ring to members (e ∙ is)
-    by None e is =
-        let i : In (gossip.others (certified n) s.me) to = In-at (gossip.others (certified n) s.me) _ to is in
-        let f = In-from_filter (λ m. not (eqb m s.me)) (certified n) to i in
-        and_from _ _ (In-from_filter (is_certified n) all_numbers to f.0).1 f.1
+    by : (o : Option ℕ) → gossip.outsider_with s.heal (state_of s n) (certified n) s.me round ≡ o → option_or o (gossip.partner s.group.t (state_of s n) (certified n) s.me plain) ≡ Some to → is_other s n to ≡ true
+    by (Some v) e is = outsider-other s n s.heal round to (e ∙ is)
+    by None e is = in_plain (successor (state_of s n) ring s.me) refl is
 
 addresses-summary : (s : Setting) (round : ℕ) (to : Option ℕ) (c : Call) → partner s c.node round ≡ to → Addresses s c → Addresses s (summary_to s round to c)
 addresses-summary s round None c e h = h
@@ -400,17 +407,37 @@ addresses-summary s round (Some to) c e h = addresses-sends s (kinds.Summary s.m
 addresses-probed : (s : Setting) (n : Node) → Addresses s (begun n) → Addresses s (probed_at s n)
 unfolding probed_at passed
 addresses-probed s n h =
-    let c : Call = lives s Passes (begun n) in
-    addresses-probes s (probes_after s c.node (state_of s c.node)).probes c (addresses-passes s (begun n) h)
+    addresses-apart s (lives s Passes (begun n)) (probed_at s n) refl refl refl (addresses-passes s (begun n) h)
+
+addresses-spreads_all : (s : Setting) (records : List Record) (c : Call) → Addresses s c → Addresses s (spreads_all s records c)
+addresses-spreads_all s [] c h = h
+addresses-spreads_all s (r ∷ records) c h =
+    addresses-sends_to_all s (neighbours s (state_of s c.node)) (kinds.Records s.me (r ∷ records)) c (λ to i. neighbour-other s c.node to h.members i) h
+
+addresses-spreads : (s : Setting) (c : Call) → Addresses s c → Addresses s (spreads s c)
+unfolding spreads
+addresses-spreads s c h =
+    let c1 : Call = spreads_all s (fresh c.node) c in
+    addresses-apart s c1 (record c1 { node = record c1.node { news = [] } }) refl refl refl (addresses-spreads_all s (fresh c.node) c h)
+
+addresses-spread : (s : Setting) (n : Node) → Addresses s (begun n) → Addresses s (spread_at s n)
+unfolding spread_at
+addresses-spread s n h = addresses-spreads s (probed_at s n) (addresses-probed s n h)
+
+certificate-spreads : (s : Setting) (c : Call) (m : ℕ) → certificate_of (spreads s c).node m ≡ certificate_of c.node m
+unfolding certificate_of
+certificate-spreads s c m = ap (λ (n : Node). option_and_then (λ r. certificate_in r.body) (n.held (keys.Certificate m))) (node-spreads s c)
 
 addresses-due : (s : Setting) (accused : List ℕ) (pings : List (ℕ × ℕ)) (round : ℕ) (c : Call) → ((p : ℕ × ℕ) → In pings p → is_other s c.node p.0 ≡ true) → Addresses s c → Addresses s (due_tick s accused pings round c)
 unfolding due_tick
 addresses-due s accused pings round c all h =
-    let c1 : Call = accuses_all s accused c in
+    let c0 : Call = spreads s c in
+    let c1 : Call = accuses_all s accused c0 in
     let c2 : Call = pings_all s pings c1 in
-    let follows = keeps-accuses_all s (λ x. Follows s c.node x.node) (following s c.node) accused c (follows-itself s c.node) in
-    let all1 : (p : ℕ × ℕ) → In pings p → is_other s c1.node p.0 ≡ true = λ p i. other-later s c.node c1.node p.0 (certified-kept s c.node c1.node p.0 follows) (all p i) in
-    addresses-summary s round (partner s c2.node round) c2 refl (addresses-pings_all s pings c1 all1 (addresses-accuses_all s accused c h))
+    let follows = keeps-accuses_all s (λ x. Follows s c0.node x.node) (following s c0.node) accused c0 (follows-itself s c0.node) in
+    let all0 : (p : ℕ × ℕ) → In pings p → is_other s c0.node p.0 ≡ true = λ p i. other-later s c.node c0.node p.0 (λ known. ap is_some (certificate-spreads s c p.0) ∙ known) (all p i) in
+    let all1 : (p : ℕ × ℕ) → In pings p → is_other s c1.node p.0 ≡ true = λ p i. other-later s c0.node c1.node p.0 (certified-kept s c0.node c1.node p.0 follows) (all0 p i) in
+    addresses-summary s round (partner s c2.node round) c2 refl (addresses-pings_all s pings c1 all1 (addresses-accuses_all s accused c0 (addresses-spreads s c h)))
 
 -- each ping is of one that is watched
 In-pings_from : (seed : List ℕ) (k : ℕ) (watched : List Watched) (p : ℕ × ℕ) → In (pings_from seed k watched) p → (w : Watched) × (In watched w × (w.member ≡ p.0))
@@ -523,8 +550,8 @@ pub ticked_until-addresses : (s : Setting) (seed : List ℕ) (certificates : Lis
 unfolding ticked_until
 ticked_until-addresses s seed certificates stored inputs silent m =
     let n : Node = after_calls s (started s seed certificates stored).node inputs in
-    let c : Call = accuses_all s silent (probed_at s n) in
-    all-addressed s (accuses false s c m) (addresses-accuses s false c m (addresses-accuses_all s silent (probed_at s n) (addresses-probed s n (addresses-begun s n (certified-life s seed certificates stored inputs)))))
+    let c : Call = accuses_all s silent (spread_at s n) in
+    all-addressed s (accuses false s c m) (addresses-accuses s false c m (addresses-accuses_all s silent (spread_at s n) (addresses-spread s n (addresses-begun s n (certified-life s seed certificates stored inputs)))))
 
 pub left_until-addresses : (s : Setting) (seed : List ℕ) (certificates : List Record) (stored : Stored) (inputs : List Input) → AddressesOthers s (left_until s (after_calls s (started s seed certificates stored).node inputs))
 unfolding left_until

@@ -6,9 +6,10 @@ use Rattle.std.specs.List.{slice_get}
 use Rattle.std.proofs.lemmas.Bool.{cases_Bool, false≢true, eq-eqb}
 use Rattle.std.proofs.lemmas.Bool.Decides.{nat_tests}
 use Rattle.ff_ids.specs.declared.Fault.{Fault}
+use Rattle.ff_ids.specs.declared.NoteBody.{NoteBody}
 use Rattle.ff_ids.specs.Views.{State}
 use Rattle.records.specs.declared.Body.{Body}
-use Rattle.records.specs.declared.Body.TheVariants.{Certificate, Note, Accusation}
+use Rattle.records.specs.declared.Body.TheVariants.{Note}
 use Rattle.records.specs.declared.Record.{Record}
 use Rattle.epoch_store.specs.declared.Stored.{Stored}
 use Rattle.signer.proofs.StepLemmas.{next_index}
@@ -18,14 +19,14 @@ use Rattle.datagram.specs.Grammar.{read_of}
 use Rattle.journal.specs.declared.event.What.TheVariants as told
 use Rattle.node_rules.specs.Nodes.{Setting, Node, state_of, neighbours, neighbours_and}
 use Rattle.node_rules.specs.Refusals.{refusal}
-use Rattle.node_rules.specs.Calls.{Call, begun, tells, takes, signs, signs_and_sends, wants, is_used_up, own_record}
-use Rattle.node_rules.specs.Deliveries.{answer_to, answers, judged, handles, handles_all, hears, delivered}
-use Rattle.node_rules.specs.Ticking.{accusation_on, ring_for, has_accused, wants_accusation, accuses, accuses_all, gossips, is_due, passed, pings_all, pings_in, probed_at, round_of, silent_in, silent_at, ticked, due_tick}
+use Rattle.node_rules.specs.Calls.{Call, begun, tells, signs, signs_and_sends, wants, is_used_up, own_record}
+use Rattle.node_rules.specs.Deliveries.{asked_with, gives_note, settles, judged, handles, handles_all, hears, delivered}
+use Rattle.node_rules.specs.Ticking.{accusation_on, ring_for, has_accused, wants_accusation, accuses, accuses_all, gossips, is_due, passed, pings_all, pings_in, spreads, probed_at, spread_at, round_of, silent_in, silent_at, ticked, due_tick}
 use Rattle.node_rules.specs.Leaving.{leaving, leaves, left}
 use Rattle.node_rules.specs.OnDisks.{Input, Delivers, Ticks, Leaves, Storage, OnDisk, puts, takes_step, steps_on, handles_on, hears_on, delivered_on, accuses_on, due_on, ticked_on, left_on, called_on, counting, called, IsCut}
 use Rattle.node_rules.specs.Lives.{call_of}
-use Rattle.node_rules.proofs.Small.{node-sends_to_all, stored-takes, stored-signs}
-use Rattle.node_rules.proofs.GoingOn.{on-handles, on-accuses, on-leaves, on-hears, on-pings_all, on-summary, on-probed}
+use Rattle.node_rules.proofs.Small.{node-sends_to_all, stored-signs, stored-settles}
+use Rattle.node_rules.proofs.GoingOn.{on-handles, on-accuses, on-leaves, on-hears, on-pings_all, on-summary, on-probed, on-spread}
 
 -- The disk fails in the answer to the record behind these.
 unfoldable pub delivered_until : Setting → Node → List Record → Record → Call
@@ -33,7 +34,7 @@ delivered_until s n records r = handles false s (handles_all s records (begun n)
 
 -- The disk fails in the accusation of the member behind these.
 unfoldable pub ticked_until : Setting → Node → List ℕ → ℕ → Call
-ticked_until s n accused m = accuses false s (accuses_all s accused (probed_at s n)) m
+ticked_until s n accused m = accuses false s (accuses_all s accused (spread_at s n)) m
 
 -- The disk fails in the note by which the node leaves.
 unfoldable pub left_until : Setting → Node → Call
@@ -82,21 +83,12 @@ step-wants s c d body to same =
           signing (ap (λ (x : Call). x.node.stored.next) (wants-made s body to d left) ∙ next-made s body to d ∙ ap (λ (k : Stored). k.next + 1) same) (wants-over s body to d left)
     ]
 
-step-chosen : (c d : Call) (b : Bool) (f : Bool → Call) → d.node.stored ≡ c.node.stored → StepIs c f → StepIs c (λ works. cond b (f works) d)
-step-chosen c d true f same k = k
-step-chosen c d false f same k = plain (ap (λ (x : Stored). x.next) same) refl
-
-step-answers : (s : Setting) (c d : Call) (body : Body) → d.node.stored ≡ c.node.stored → StepIs c (λ works. answers works s body d)
-step-answers s c d (Certificate x) same = plain (ap (λ (k : Stored). k.next) same) refl
-step-answers s c d (Note x) same = plain (ap (λ (k : Stored). k.next) same) refl
-step-answers s c d (Accusation a) same =
-    step-chosen c d (eqb a.accused s.me) (λ works. wants works s (answer_to s d.node.stored a) (neighbours s) d) same (step-wants s c d (answer_to s d.node.stored a) (neighbours s) same)
+step-gives_note : (s : Setting) (c d : Call) (note : Option NoteBody) → d.node.stored ≡ c.node.stored → StepIs c (λ works. gives_note works s note d)
+step-gives_note s c d None same = plain (ap (λ (k : Stored). k.next) same) refl
+step-gives_note s c d (Some note) same = step-wants s c d (Note note) (neighbours s) same
 
 step-judged : (s : Setting) (c : Call) (fault : Option Fault) (r : Record) → StepIs c (λ works. judged works s fault r c)
-step-judged s c (Some fault) r = plain refl refl
-step-judged s c None r =
-    let c1 : Call = tells s (told.Took r.body None) c in
-    step-answers s c (takes s r c1) r.body (stored-takes s r c1)
+step-judged s c fault r = step-gives_note s c (settles s fault r c) (asked_with s c.node fault r.body r) (stored-settles s fault r c)
 
 pub step-handles : (s : Setting) (c : Call) (r : Record) → StepIs c (λ works. handles works s c r)
 unfolding handles
@@ -342,7 +334,7 @@ pub until-is : (s : Setting) (n : Node) (records : List Record) (r : Record) →
 unfolding delivered_until
 until-is s n records r = refl
 
-pub until-ticked : (s : Setting) (n : Node) (silent : List ℕ) (m : ℕ) → ticked_until s n silent m ≡ accuses false s (accuses_all s silent (probed_at s n)) m
+pub until-ticked : (s : Setting) (n : Node) (silent : List ℕ) (m : ℕ) → ticked_until s n silent m ≡ accuses false s (accuses_all s silent (spread_at s n)) m
 unfolding ticked_until
 until-ticked s n silent m = refl
 
@@ -383,36 +375,36 @@ pub on-gossips : (s : Setting) (pings : List (ℕ × ℕ)) (round : ℕ) (c : Ca
 on-gossips s pings round c = on-summary s round _ (pings_all s pings c) ∙ on-pings_all s pings c
 
 so_far-ticks : {D : Type 0} (storage : Storage D) (s : Setting) (n : Node) (disk : D) → IsWhole (ticked_on storage s n disk).call (ticked s n) ⊎ IsCutAccusing s n (ticked_on storage s n disk).call
-unfolding ticked_on due_on ticked due_tick silent_at ticked_until
+unfolding ticked_on due_on ticked due_tick silent_at ticked_until spread_at
 so_far-ticks {D} storage s n disk =
     let p : Node = (passed s n).node in
     let st : State = state_of s p in
     let silent : List ℕ = silent_in s p st in
     let sent : List (ℕ × ℕ) = pings_in s p st in
     let round : ℕ = round_of s st in
-    let d : OnDisk D = record { call = probed_at s n; disk = disk } in
+    let d0 : OnDisk D = record { call = probed_at s n; disk = disk } in
+    let d : OnDisk D = record { call = spreads s (probed_at s n); disk = disk } in
     let d1 : OnDisk D = fold (accuses_on storage s) d silent in
-    let going : (probed_at s n).ended ≡ false = on-probed s n in
     elim (cases_Bool (is_due s st)) [
       | inr never ↦
-          let e : ticked_on storage s n disk ≡ d = other (is_due s st) _ _ never in
+          let e : ticked_on storage s n disk ≡ d0 = other (is_due s st) _ _ never in
           let t : ticked s n ≡ probed_at s n = other (is_due s st) _ _ never in
-          inl (record { is = ap (λ (o : OnDisk D). o.call) e ∙ sym t; going = ap (λ (o : OnDisk D). o.call.ended) e ∙ going })
+          inl (record { is = ap (λ (o : OnDisk D). o.call) e ∙ sym t; going = ap (λ (o : OnDisk D). o.call.ended) e ∙ on-probed s n })
       | inl due ↦
-          let e : ticked_on storage s n disk ≡ due_on storage s silent sent round d = chosen (is_due s st) _ _ due in
+          let e : ticked_on storage s n disk ≡ due_on storage s silent sent round d0 = chosen (is_due s st) _ _ due in
           let t : ticked s n ≡ due_tick s silent sent round (probed_at s n) = chosen (is_due s st) _ _ due in
           let same : d1.call ≡ (fold (steps_on storage (λ works c x. accuses works s c x)) d silent).call = ap (λ (o : OnDisk D). o.call) (accused-on storage s d silent) in
-          (elim (comes storage (λ works c x. accuses works s c x) silent d (all-accuse s) going) [
+          (elim (comes storage (λ works c x. accuses works s c x) silent d (all-accuse s) (on-spread s n)) [
             | inl whole ↦
                 let on : d1.call.ended ≡ false = ap (λ (c : Call). c.ended) same ∙ whole.0 in
-                let f : due_on storage s silent sent round d ≡ record d1 { call = gossips s round (pings_all s sent d1.call) } = other d1.call.ended _ _ on in
+                let f : due_on storage s silent sent round d0 ≡ record d1 { call = gossips s round (pings_all s sent d1.call) } = other d1.call.ended _ _ on in
                 inl (record {
                   is = ap (λ (o : OnDisk D). o.call) (e ∙ f) ∙ ap (λ (c : Call). gossips s round (pings_all s sent c)) (same ∙ whole.1) ∙ sym t;
                   going = ap (λ (o : OnDisk D). o.call.ended) (e ∙ f) ∙ on-gossips s sent round d1.call ∙ on;
                 })
             | inr cut ↦
                 let over : d1.call.ended ≡ true = ap (λ (c : Call). c.ended) same ∙ cut.2.2 in
-                let f : due_on storage s silent sent round d ≡ d1 = chosen d1.call.ended _ _ over in
+                let f : due_on storage s silent sent round d0 ≡ d1 = chosen d1.call.ended _ _ over in
                 inr (record {
                   place = cut.0;
                   at = cut.1;
@@ -453,27 +445,29 @@ none-hears s n (Ok (kinds.Records from records)) =
     ap (λ (o : OnDisk (Option ℕ)). o.call) (handled-on counting s (counts (begun n) None) records ∙ none-fails (λ works c x. handles works s c x) records (begun n) (all-handle s) refl)
 
 none-ticks : (s : Setting) (n : Node) → (ticked_on counting s n None).call ≡ ticked s n
-unfolding ticked_on due_on ticked due_tick
+unfolding ticked_on due_on ticked due_tick spread_at
 none-ticks s n =
     let p : Node = (passed s n).node in
     let st : State = state_of s p in
     let silent : List ℕ = silent_in s p st in
     let sent : List (ℕ × ℕ) = pings_in s p st in
     let round : ℕ = round_of s st in
-    let d : OnDisk (Option ℕ) = counts (probed_at s n) None in
+    let d0 : OnDisk (Option ℕ) = counts (probed_at s n) None in
+    let c : Call = spreads s (probed_at s n) in
+    let d : OnDisk (Option ℕ) = counts c None in
     let d1 : OnDisk (Option ℕ) = fold (accuses_on counting s) d silent in
-    let whole : Call = accuses_all s silent (probed_at s n) in
+    let whole : Call = accuses_all s silent c in
     elim (cases_Bool (is_due s st)) [
       | inr never ↦
-          let e : ticked_on counting s n None ≡ d = other (is_due s st) _ _ never in
+          let e : ticked_on counting s n None ≡ d0 = other (is_due s st) _ _ never in
           let t : ticked s n ≡ probed_at s n = other (is_due s st) _ _ never in
           ap (λ (o : OnDisk (Option ℕ)). o.call) e ∙ sym t
       | inl due ↦
-          let e : ticked_on counting s n None ≡ due_on counting s silent sent round d = chosen (is_due s st) _ _ due in
+          let e : ticked_on counting s n None ≡ due_on counting s silent sent round d0 = chosen (is_due s st) _ _ due in
           let t : ticked s n ≡ due_tick s silent sent round (probed_at s n) = chosen (is_due s st) _ _ due in
-          let same : d1 ≡ counts whole None = accused-on counting s d silent ∙ none-fails (λ works c x. accuses works s c x) silent (probed_at s n) (all-accuse s) (on-probed s n) in
-          let on : d1.call.ended ≡ false = ap (λ (o : OnDisk (Option ℕ)). o.call.ended) same ∙ on-accused s silent (probed_at s n) ∙ on-probed s n in
-          let f : due_on counting s silent sent round d ≡ record d1 { call = gossips s round (pings_all s sent d1.call) } = other d1.call.ended _ _ on in
+          let same : d1 ≡ counts whole None = accused-on counting s d silent ∙ none-fails (λ works c x. accuses works s c x) silent c (all-accuse s) (on-spread s n) in
+          let on : d1.call.ended ≡ false = ap (λ (o : OnDisk (Option ℕ)). o.call.ended) same ∙ on-accused s silent c ∙ on-spread s n in
+          let f : due_on counting s silent sent round d0 ≡ record d1 { call = gossips s round (pings_all s sent d1.call) } = other d1.call.ended _ _ on in
           ap (λ (o : OnDisk (Option ℕ)). o.call) (e ∙ f) ∙ ap (λ (o : OnDisk (Option ℕ)). gossips s round (pings_all s sent o.call)) same ∙ sym t
     ]
   where
@@ -514,27 +508,28 @@ put-answering s n bytes from before at behind read over =
 -- The same, for the accusation of a member.
 pub record IsPutAccusing (s : Setting) (n : Node) (before : List ℕ) (at : ℕ) : Type 0 where
   pub put : ℕ
-  pub counted : (accuses_all s before (probed_at s n)).node.stored.next ≡ (probed_at s n).node.stored.next + put
+  pub counted : (accuses_all s before (spread_at s n)).node.stored.next ≡ (spread_at s n).node.stored.next + put
   pub is : called s n Ticks (Some put) ≡ ticked_until s n before at
 
 pub put-accusing : (s : Setting) (n : Node) (before : List ℕ) (at : ℕ) (behind : List ℕ) → silent_at s n ≡ before ++ at ∷ behind → (ticked_until s n before at).ended ≡ true → IsPutAccusing s n before at
-unfolding called ticked_on due_on silent_at ticked_until
+unfolding called ticked_on due_on silent_at ticked_until spread_at
 put-accusing s n before at behind is over =
     let p : Node = (passed s n).node in
     let st : State = state_of s p in
     let silent : List ℕ = silent_in s p st in
     let sent : List (ℕ × ℕ) = pings_in s p st in
     let round : ℕ = round_of s st in
-    let it = put-at (λ works c x. accuses works s c x) before at behind (probed_at s n) (all-accuse s) (on-probed s n) over in
-    let d : OnDisk (Option ℕ) = counts (probed_at s n) (Some it.put) in
+    let it = put-at (λ works c x. accuses works s c x) before at behind (spread_at s n) (all-accuse s) (on-spread s n) over in
+    let d0 : OnDisk (Option ℕ) = counts (probed_at s n) (Some it.put) in
+    let d : OnDisk (Option ℕ) = counts (spread_at s n) (Some it.put) in
     let d1 : OnDisk (Option ℕ) = fold (accuses_on counting s) d silent in
-    let there : d1.call ≡ accuses false s (accuses_all s before (probed_at s n)) at = ap (λ (o : OnDisk (Option ℕ)). o.call) (accused-on counting s d silent)
+    let there : d1.call ≡ accuses false s (accuses_all s before (spread_at s n)) at = ap (λ (o : OnDisk (Option ℕ)). o.call) (accused-on counting s d silent)
     ∙ ap (λ (xs : List ℕ). (fold (steps_on counting (λ works c x. accuses works s c x)) d xs).call) is ∙ it.comes_there in
     elim (cases_Bool (is_due s st)) [
       | inr never ↦ absurd (not-nothing before (sym is ∙ other (is_due s st) _ _ never))
       | inl due ↦
-          let e : ticked_on counting s n (Some it.put) ≡ due_on counting s silent sent round d = chosen (is_due s st) _ _ due in
-          let f : due_on counting s silent sent round d ≡ d1 = chosen d1.call.ended _ _ (ap (λ (c : Call). c.ended) there ∙ over) in
+          let e : ticked_on counting s n (Some it.put) ≡ due_on counting s silent sent round d0 = chosen (is_due s st) _ _ due in
+          let f : due_on counting s silent sent round d0 ≡ d1 = chosen d1.call.ended _ _ (ap (λ (c : Call). c.ended) there ∙ over) in
           record { put = it.put; counted = it.counted; is = ap (λ (o : OnDisk (Option ℕ)). o.call) (e ∙ f) ∙ there }
     ]
   where

@@ -1,15 +1,17 @@
 -- What each call carries on that each of its steps does, datagrams being reported with their sending alone.
-use Rattle.std.proofs.Common.{◌≡◌, ℕ, Bool, true, false, eqb, cond, List, [], ◌∷◌, Option, Some, None, refl}
-use Rattle.std.specs.Prelude.{Result, Ok, Err}
-use Rattle.std.proofs.lemmas.Bool.{cond_both}
+use Rattle.std.proofs.Common.{◌≡◌, ℕ, Bool, true, false, eqb, cond, List, [], ◌∷◌, Option, Some, None, refl, subst}
+use Rattle.std.specs.Prelude.{◌&&◌, Result, Ok, Err}
+use Rattle.std.proofs.lemmas.Bool.{cond_both, and_parts}
 use Rattle.ff_ids.specs.declared.AccBody.{AccBody}
 use Rattle.ff_ids.specs.declared.Fault.{Fault}
+use Rattle.ff_ids.specs.declared.NoteBody.{NoteBody}
 use Rattle.ff_ids.specs.declared.summary.Summary.{Summary}
 use Rattle.ff_ids.specs.Views.{State}
 use Rattle.ff_ids.specs.Steps.{Ticks}
 use Rattle.records.specs.declared.Body.{Body}
 use Rattle.records.specs.declared.Body.TheVariants.{Certificate, Note, Accusation}
 use Rattle.records.specs.declared.Record.{Record}
+use Rattle.epoch_store.specs.declared.Stored.{Stored}
 use Rattle.datagram.specs.declared.Datagram.{Datagram}
 use Rattle.datagram.specs.declared.Datagram.TheVariants as kinds
 use Rattle.datagram.specs.Grammar.{read_of}
@@ -20,11 +22,12 @@ use Rattle.node_rules.specs.Nodes.{Setting, Node, state_of, neighbours, neighbou
 use Rattle.node_rules.specs.Pages.{page, partner, page_number, lacking}
 use Rattle.node_rules.specs.Refusals.{refusal}
 use Rattle.node_rules.specs.Calls.{Call, begun, tells, lives, takes, signs, signs_and_sends, wants, stops, sends, sends_to_all, is_used_up, own_record}
-use Rattle.node_rules.specs.Deliveries.{answer_to, answers, judged, handles, handles_all, is_other, gives, replies, exchanges, pinged, ponged_by, hears, delivered}
-use Rattle.node_rules.specs.Ticking.{accusation_on, ring_for, has_accused, wants_accusation, accuses, accuses_all, is_due, silent_in, pings_in, probes_after, pings_all, summary_to, round_of, passed, probed_at, due_tick, ticked}
+use Rattle.node_rules.specs.Deliveries.{answer_to, returning_note, may_rise, is_told, asked_of, asked_with, gives_note, settles, handles, handles_all, is_other, gives, replies, exchanges, pinged, ponged_by, hears, delivered}
+use Rattle.node_rules.specs.Ticking.{accusation_on, ring_for, has_accused, wants_accusation, accuses, accuses_all, fresh, spreads_all, spreads, is_due, begins_span, silent_in, pings_in, probes_after, pings_all, summary_to, round_of, passed, probed_at, spread_at, due_tick, ticked}
 use Rattle.node_rules.specs.Verdicts.{is_apart}
 use Rattle.node_rules.specs.Leaving.{leaving, leaves, left}
 use Rattle.node_rules.specs.Lives.{Input, Delivers, Ticks as Tick, Leaves, call_of}
+use Rattle.node_rules.proofs.Small.{stored-takes}
 use Rattle.node_rules.proofs.Called.{delivered_until, ticked_until, left_until}
 
 -- Told apart from the life and from datagrams, and no signature.
@@ -36,17 +39,28 @@ pub beside-apart : (what : whats.What) → is_beside what ≡ true → is_apart 
 beside-apart (told.Spent index body) h = refl
 beside-apart other h = h
 
+-- The record is an accusation against the node, refused, by which it is told that others removed it.
+pub record AsksBack (s : Setting) (n : Node) (r : Record) (a : AccBody) : Type 0 where
+  pub fault : Fault
+  pub refused : refusal s n r ≡ Some fault
+  pub is : r.body ≡ Accusation a
+  pub me : eqb a.accused s.me ≡ true
+  pub told : is_told s n fault a r ≡ true
+
 -- Each step of a call carries it on.
 pub record Carries (s : Setting) (P : Call → Type 0) : Type 0 where
   pub told : (what : whats.What) (c : Call) → is_beside what ≡ true → P c → P (tells s what c)
   pub sent : (d : Datagram) (c : Call) (to : ℕ) → P c → P (sends s d c to)
   pub taken : (r : Record) (c : Call) → refusal s c.node r ≡ None → P c → P (takes s r c)
-  pub answered : (r : Record) (a : AccBody) (c : Call) → refusal s c.node r ≡ None → r.body ≡ Accusation a → eqb a.accused s.me ≡ true → is_used_up s (takes s r c).node ≡ false → P c → P (signs s (answer_to s (takes s r c).node.stored a) (takes s r c))
+  pub answered : (r : Record) (a : AccBody) (c : Call) → refusal s c.node r ≡ None → r.body ≡ Accusation a → eqb a.accused s.me ≡ true → may_rise s.heal c.node ≡ true → is_used_up s (takes s r c).node ≡ false → P c → P (signs s (answer_to s (takes s r c).node.stored a) (takes s r c))
+  pub returned : (r : Record) (a : AccBody) (c : Call) → AsksBack s c.node r a → may_rise s.heal c.node ≡ true → is_used_up s c.node ≡ false → P c → P (signs s (Note (returning_note s c.node.stored)) c)
   pub accused : (a : AccBody) (c : Call) → a.accuser ≡ s.me → is_used_up s c.node ≡ false → P c → P (signs s (Accusation a) c)
   pub departed : (c : Call) → is_used_up s c.node ≡ false → P c → P (signs s (leaving s c.node.stored) c)
   pub stopped : (c : Call) → P c → P (stops s c)
   pub passed : (c : Call) → P c → P (lives s Ticks c)
   pub probed : (h : History) (c : Call) → P c → P (record c { node = record c.node { probes = h } })
+  pub spanned : (c : Call) → P c → P (record c { node = record c.node { since = c.node.stored.epoch } })
+  pub spread : (c : Call) → P c → P (record c { node = record c.node { news = [] } })
 
 pub carries-sends_to_all : (s : Setting) (P : Call → Type 0) → Carries s P → (addressees : List ℕ) (d : Datagram) (c : Call) → P c → P (sends_to_all s addressees d c)
 carries-sends_to_all s P k [] d c h = h
@@ -64,24 +78,39 @@ carries-wants s P k works body addressees c h signed =
 
 -- ---- records
 
-carries-answers : (s : Setting) (P : Call → Type 0) → Carries s P → (works : Bool) (r : Record) (b : Body) (c : Call) → r.body ≡ b → refusal s c.node r ≡ None → P c → P (answers works s b (takes s r c))
-carries-answers s P k works r (Certificate b) c e fine h = k.taken r c fine h
-carries-answers s P k works r (Note b) c e fine h = k.taken r c fine h
-carries-answers s P k works r (Accusation a) c e fine h =
-    let c1 : Call = takes s r c in
-    cond_both (eqb a.accused s.me) (wants works s (answer_to s c1.node.stored a) (neighbours s) c1) c1 P
-    (λ yes. carries-wants s P k works (answer_to s c1.node.stored a) (neighbours s) c1 (k.taken r c fine h) (λ left. k.answered r a c fine e yes left h))
-    (λ no. k.taken r c fine h)
+carries-settles : (s : Setting) (P : Call → Type 0) → Carries s P → (f : Option Fault) (r : Record) (c : Call) → refusal s c.node r ≡ f → P c → P (settles s f r c)
+carries-settles s P k (Some f) r c e h = k.told (told.Took r.body (Some f)) c refl h
+carries-settles s P k None r c e h = k.taken r (tells s (told.Took r.body None) c) e (k.told (told.Took r.body None) c refl h)
 
-carries-judged : (s : Setting) (P : Call → Type 0) → Carries s P → (works : Bool) (f : Option Fault) (r : Record) (c : Call) → refusal s c.node r ≡ f → P c → P (judged works s f r c)
-carries-judged s P k works (Some fault) r c e h = k.told (told.Took r.body (Some fault)) c refl h
-carries-judged s P k works None r c e h =
+carries-asked_of : (s : Setting) (P : Call → Type 0) → Carries s P → (works : Bool) (f : Option Fault) (a : AccBody) (r : Record) (c : Call)
+    → refusal s c.node r ≡ f → r.body ≡ Accusation a → eqb a.accused s.me ≡ true → may_rise s.heal c.node ≡ true → P c → P (gives_note works s (asked_of s c.node f a r) (settles s f r c))
+carries-asked_of s P k works None a r c e is me may h =
     let c1 : Call = tells s (told.Took r.body None) c in
-    carries-answers s P k works r r.body c1 refl e (k.told (told.Took r.body None) c refl h)
+    let c2 : Call = takes s r c1 in
+    let h1 : P c1 = k.told (told.Took r.body None) c refl h in
+    let kept : c2.node.stored ≡ c.node.stored = stored-takes s r c1 in
+    carries-wants s P k works (answer_to s c.node.stored a) (neighbours s) c2 (k.taken r c1 e h1)
+    (λ left. subst (λ (x : Stored). P (signs s (answer_to s x a) c2)) kept (k.answered r a c1 e is me may left h1))
+carries-asked_of s P k works (Some f) a r c e is me may h =
+    let note : NoteBody = returning_note s c.node.stored in
+    let c1 : Call = tells s (told.Took r.body (Some f)) c in
+    let h1 : P c1 = k.told (told.Took r.body (Some f)) c refl h in
+    cond_both (is_told s c.node f a r) (Some note) None (λ o. P (gives_note works s o c1))
+    (λ heard. carries-wants s P k works (Note note) (neighbours s) c1 h1 (λ left. k.returned r a c1 (record { fault = f; refused = e; is = is; me = me; told = heard }) may left h1))
+    (λ no. h1)
+
+carries-asked : (s : Setting) (P : Call → Type 0) → Carries s P → (works : Bool) (f : Option Fault) (b : Body) (r : Record) (c : Call)
+    → refusal s c.node r ≡ f → r.body ≡ b → P c → P (gives_note works s (asked_with s c.node f b r) (settles s f r c))
+carries-asked s P k works f (Certificate x) r c e is h = carries-settles s P k f r c e h
+carries-asked s P k works f (Note x) r c e is h = carries-settles s P k f r c e h
+carries-asked s P k works f (Accusation a) r c e is h =
+    cond_both (eqb a.accused s.me && may_rise s.heal c.node) (asked_of s c.node f a r) None (λ o. P (gives_note works s o (settles s f r c)))
+    (λ yes. let both = and_parts _ _ yes in carries-asked_of s P k works f a r c e is both.0 both.1 h)
+    (λ no. carries-settles s P k f r c e h)
 
 pub carries-handles : (s : Setting) (P : Call → Type 0) → Carries s P → (works : Bool) (c : Call) (r : Record) → P c → P (handles works s c r)
 unfolding handles
-carries-handles s P k works c r h = carries-judged s P k works (refusal s c.node r) r c refl h
+carries-handles s P k works c r h = carries-asked s P k works (refusal s c.node r) r.body r c refl refl h
 
 pub carries-handles_all : (s : Setting) (P : Call → Type 0) → Carries s P → (records : List Record) (c : Call) → P c → P (handles_all s records c)
 carries-handles_all s P k [] c h = h
@@ -101,9 +130,9 @@ carries-exchanges : (s : Setting) (P : Call → Type 0) → Carries s P → (fro
 carries-exchanges s P k from flag theirs c h =
     let c1 : Call = tells s (told.Summary from theirs.page flag) c in
     let h1 : P c1 = k.told (told.Summary from theirs.page flag) c refl h in
-    let c2 : Call = gives s from (lacking c.node theirs) c1 in
+    let c2 : Call = gives s from (lacking c.node from theirs) c1 in
     cond_both (is_other s c.node from) (replies s from flag theirs.page c2) c1 P
-    (λ yes. carries-replies s P k from flag theirs.page c2 (carries-gives s P k from (lacking c.node theirs) c1 h1))
+    (λ yes. carries-replies s P k from flag theirs.page c2 (carries-gives s P k from (lacking c.node from theirs) c1 h1))
     (λ no. h1)
 
 carries-pinged : (s : Setting) (P : Call → Type 0) → Carries s P → (from nonce : ℕ) (c : Call) → P c → P (pinged s from nonce c)
@@ -165,14 +194,31 @@ pub carries-probed_at : (s : Setting) (P : Call → Type 0) → Carries s P → 
 unfolding probed_at passed
 carries-probed_at s P k n h =
     let c : Call = lives s Ticks (begun n) in
-    k.probed (probes_after s c.node (state_of s c.node)).probes c (k.passed (begun n) h)
+    let st : State = state_of s c.node in
+    let probes : History = (probes_after s c.node st).probes in
+    let c1 : Call = record c { node = record c.node { probes = probes } } in
+    let h1 : P c1 = k.probed probes c (k.passed (begun n) h) in
+    cond_both (begins_span s st) c.node.stored.epoch c.node.since (λ since. P (record c1 { node = record c1.node { since = since } })) (λ yes. k.spanned c1 h1) (λ no. h1)
+
+carries-spreads_all : (s : Setting) (P : Call → Type 0) → Carries s P → (records : List Record) (c : Call) → P c → P (spreads_all s records c)
+carries-spreads_all s P k [] c h = h
+carries-spreads_all s P k (r ∷ records) c h = carries-sends_to_all s P k (neighbours s (state_of s c.node)) (kinds.Records s.me (r ∷ records)) c h
+
+pub carries-spreads : (s : Setting) (P : Call → Type 0) → Carries s P → (c : Call) → P c → P (spreads s c)
+unfolding spreads
+carries-spreads s P k c h = k.spread (spreads_all s (fresh c.node) c) (carries-spreads_all s P k (fresh c.node) c h)
+
+pub carries-spread_at : (s : Setting) (P : Call → Type 0) → Carries s P → (n : Node) → P (begun n) → P (spread_at s n)
+unfolding spread_at
+carries-spread_at s P k n h = carries-spreads s P k (probed_at s n) (carries-probed_at s P k n h)
 
 carries-due : (s : Setting) (P : Call → Type 0) → Carries s P → (accused : List ℕ) (sent : List (ℕ × ℕ)) (round : ℕ) (c : Call) → P c → P (due_tick s accused sent round c)
 unfolding due_tick
 carries-due s P k accused sent round c h =
-    let c1 : Call = accuses_all s accused c in
+    let c0 : Call = spreads s c in
+    let c1 : Call = accuses_all s accused c0 in
     let c2 : Call = pings_all s sent c1 in
-    carries-summary_to s P k round (partner s c2.node round) c2 (carries-pings_all s P k sent c1 (carries-accuses_all s P k accused c h))
+    carries-summary_to s P k round (partner s c2.node round) c2 (carries-pings_all s P k sent c1 (carries-accuses_all s P k accused c0 (carries-spreads s P k c h)))
 
 pub carries-ticked : (s : Setting) (P : Call → Type 0) → Carries s P → (n : Node) → P (begun n) → P (ticked s n)
 unfolding ticked
@@ -187,7 +233,7 @@ carries-ticked s P k n h =
 pub carries-ticked_until : (s : Setting) (P : Call → Type 0) → Carries s P → (n : Node) (silent : List ℕ) (m : ℕ) → P (begun n) → P (ticked_until s n silent m)
 unfolding ticked_until
 carries-ticked_until s P k n silent m h =
-    carries-accuses s P k false (accuses_all s silent (probed_at s n)) m (carries-accuses_all s P k silent (probed_at s n) (carries-probed_at s P k n h))
+    carries-accuses s P k false (accuses_all s silent (spread_at s n)) m (carries-accuses_all s P k silent (spread_at s n) (carries-spread_at s P k n h))
 
 -- ---- leaving
 

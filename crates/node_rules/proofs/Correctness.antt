@@ -8,6 +8,7 @@ use Rattle.std.proofs.lemmas.Bool.Decides.{nat_tests}
 use Rattle.ff_ids.specs.declared.AccBody.{AccBody}
 use Rattle.ff_ids.specs.declared.NoteBody.{NoteBody}
 use Rattle.ff_ids.specs.declared.Fault.TheVariants as faults
+use Rattle.ff_ids.specs.declared.summary.RecordKey.{RecordKey}
 use Rattle.ff_ids.specs.declared.summary.RecordKey.TheVariants as keys
 use Rattle.ff_ids.specs.Masks.{all_rings, good_mask, note_mask}
 use Rattle.ff_ids.specs.Notes.{newest}
@@ -29,7 +30,7 @@ use Rattle.node_rules.specs.Nodes.{Setting, Node, state_of, certificate_of, publ
 use Rattle.node_rules.specs.Refusals.{refusal, refusal_of}
 use Rattle.node_rules.specs.Replies.{first_mask}
 use Rattle.node_rules.specs.Calls.{Call, begun, lives, takes, spends, signs, sends, own_record, is_used_up}
-use Rattle.node_rules.specs.Deliveries.{answer_to, answering_note}
+use Rattle.node_rules.specs.Deliveries.{answer_to, answering_note, returning_note, may_rise}
 use Rattle.node_rules.specs.Starting.{blank, opened, started}
 use Rattle.node_rules.specs.Leaving.{leaving, leaving_note}
 use Rattle.node_rules.proofs.Allowed.{good-allowed}
@@ -37,8 +38,9 @@ use Rattle.node_rules.specs.Lives.{KeepsOwnNote, Input, call_of, after_calls, is
 use Rattle.node_rules.specs.Vouching.{OwnSignaturesVerify, IsCertifiedBy}
 use Rattle.node_rules.specs.OneExchange.{Life, node_after, IsCorrect, IsSignedBy}
 use Rattle.node_rules.proofs.Small.{stored-takes, stored-signs}
-use Rattle.node_rules.proofs.OwnNote.{option_or-none, stored-lives, keeping, own-started, becomes_member, answer-fine, next_own-fine}
+use Rattle.node_rules.proofs.OwnNote.{option_or-none, stored-lives, keeping, own-started, becomes_member, answer-fine, return-fine, next_own-fine}
 use Rattle.rebuttal.proofs.Masks.{all_rings-good}
+use Rattle.node_rules.proofs.Carrying.{AsksBack}
 use Rattle.node_rules.proofs.Keeping.{Keeps, keeps-call}
 use Rattle.node_rules.proofs.OwnKey.{key-started}
 use Rattle.node_rules.proofs.Growth.{certificate-signs, none-kept, held-takes, Follows, follows-itself, following, note-is_none, accusation-is_none}
@@ -160,17 +162,29 @@ all-takes s own r c some fine h =
     }
 
 all-answers : (s : Setting) (own : Key) (r : Record) (a : AccBody) (c : Call) → 1 ≤ s.group.t → OwnSignaturesVerify s own → refusal s c.node r ≡ None → r.body ≡ Accusation a → eqb a.accused s.me ≡ true
-    → is_used_up s (takes s r c).node ≡ false → KeepsAll s own c.node → KeepsAll s own (signs s (answer_to s (takes s r c).node.stored a) (takes s r c)).node
-all-answers s own r a c some sign fine is me left h =
+    → may_rise s.heal c.node ≡ true → is_used_up s (takes s r c).node ≡ false → KeepsAll s own c.node → KeepsAll s own (signs s (answer_to s (takes s r c).node.stored a) (takes s r c)).node
+all-answers s own r a c some sign fine is me may left h =
     let c1 : Call = takes s r c in
     let h1 : KeepsAll s own c1.node = all-takes s own r c some fine h in
     let x : NoteBody = answering_note s c1.node.stored a in
     let index : c1.node.stored.next < s.indexes = index-left s c1.node left h1.within in
     record {
-      own_note = (keeping s some).answered r a c fine is me left h.own_note;
+      own_note = (keeping s some).answered r a c fine is me may left h.own_note;
       own_key = ap (option_map (λ c. c.key)) (certificate-signs s (Note x) c1 s.me (note-is_none x)) ∙ h1.own_key;
       within = within-signs s (Note x) c1 index;
       upholds = upholds-signs_note s own x c1 refl sign index h1.own_key (answer-fine s r a c some fine is me h.own_note) h1.upholds;
+    }
+
+all-returns : (s : Setting) (own : Key) (r : Record) (a : AccBody) (c : Call) → 1 ≤ s.group.t → OwnSignaturesVerify s own → AsksBack s c.node r a → may_rise s.heal c.node ≡ true → is_used_up s c.node ≡ false
+    → KeepsAll s own c.node → KeepsAll s own (signs s (Note (returning_note s c.node.stored)) c).node
+all-returns s own r a c some sign asks may left h =
+    let x : NoteBody = returning_note s c.node.stored in
+    let index : c.node.stored.next < s.indexes = index-left s c.node left h.within in
+    record {
+      own_note = (keeping s some).returned r a c asks may left h.own_note;
+      own_key = ap (option_map (λ c. c.key)) (certificate-signs s (Note x) c s.me (note-is_none x)) ∙ h.own_key;
+      within = within-signs s (Note x) c index;
+      upholds = upholds-signs_note s own x c refl sign index h.own_key (return-fine s c.node h.own_note) h.upholds;
     }
 
 all-accuses : (s : Setting) (own : Key) (a : AccBody) (c : Call) → 1 ≤ s.group.t → a.accuser ≡ s.me → is_used_up s c.node ≡ false → KeepsAll s own c.node → KeepsAll s own (signs s (Accusation a) c).node
@@ -206,24 +220,33 @@ all-sends : (s : Setting) (own : Key) (d : Datagram) (c : Call) (to : ℕ) → K
 unfolding sends
 all-sends s own d c to h = h
 
-all-probed : (s : Setting) (own : Key) (c : Call) (p : History) → 1 ≤ s.group.t → KeepsAll s own c.node → KeepsAll s own (record c.node { probes = p })
+-- What a node lives, holds and stores is what this rests on.
+upholds-again : (s : Setting) (n : Node) (p : History) (news : List RecordKey) (since : ℕ) → Upholds s n → Upholds s (record n { probes = p; news = news; since = since })
 unfolding state_of certificate_of
-all-probed s own c p some h =
-    let u = h.upholds in
+upholds-again s n p news since u =
     record {
-      own_note = (keeping s some).probed p c h.own_note;
-      own_key = h.own_key;
-      within = h.within;
-      upholds =
-          record {
-            filed = u.filed;
-            notes = u.notes;
-            members = u.members;
-            certificates = u.certificates;
-            signed = λ m r is. let k = u.signed m r is in record { key = k.key; author_is = k.author_is; verifies = k.verifies };
-            allowed = u.allowed;
-          };
+      filed = u.filed;
+      notes = u.notes;
+      members = u.members;
+      certificates = u.certificates;
+      signed = λ m r is. let k = u.signed m r is in record { key = k.key; author_is = k.author_is; verifies = k.verifies };
+      allowed = u.allowed;
     }
+
+all-probed : (s : Setting) (own : Key) (c : Call) (p : History) → 1 ≤ s.group.t → KeepsAll s own c.node → KeepsAll s own (record c.node { probes = p })
+unfolding certificate_of
+all-probed s own c p some h =
+    record { own_note = (keeping s some).probed p c h.own_note; own_key = h.own_key; within = h.within; upholds = upholds-again s c.node p c.node.news c.node.since h.upholds }
+
+all-spanned : (s : Setting) (own : Key) (c : Call) → 1 ≤ s.group.t → KeepsAll s own c.node → KeepsAll s own (record c.node { since = c.node.stored.epoch })
+unfolding certificate_of
+all-spanned s own c some h =
+    record { own_note = (keeping s some).spanned c h.own_note; own_key = h.own_key; within = h.within; upholds = upholds-again s c.node c.node.probes c.node.news c.node.stored.epoch h.upholds }
+
+all-spread : (s : Setting) (own : Key) (c : Call) → 1 ≤ s.group.t → KeepsAll s own c.node → KeepsAll s own (record c.node { news = [] })
+unfolding certificate_of
+all-spread s own c some h =
+    record { own_note = (keeping s some).spread c h.own_note; own_key = h.own_key; within = h.within; upholds = upholds-again s c.node c.node.probes [] c.node.since h.upholds }
 
 pub keeping-all : (s : Setting) (own : Key) → 1 ≤ s.group.t → OwnSignaturesVerify s own → Keeps s (λ c. KeepsAll s own c.node)
 keeping-all s own some sign =
@@ -231,12 +254,15 @@ keeping-all s own some sign =
       told = λ what c other h. h;
       sent = λ d c to h. all-sends s own d c to h;
       taken = λ r c fine h. all-takes s own r c some fine h;
-      answered = λ r a c fine is me left h. all-answers s own r a c some sign fine is me left h;
+      answered = λ r a c fine is me may left h. all-answers s own r a c some sign fine is me may left h;
+      returned = λ r a c asks may left h. all-returns s own r a c some sign asks may left h;
       accused = λ a c by left h. all-accuses s own a c some by left h;
       departed = λ c left h. all-leaves s own c some sign left h;
       stopped = λ c h. h;
       passed = λ c h. all-ticks s own c some h;
       probed = λ p c h. all-probed s own c p some h;
+      spanned = λ c h. all-spanned s own c some h;
+      spread = λ c h. all-spread s own c some h;
     }
 
 all-calls : (s : Setting) (own : Key) (n : Node) (inputs : List Input) → 1 ≤ s.group.t → OwnSignaturesVerify s own → KeepsAll s own n → KeepsAll s own (after_calls s n inputs)

@@ -45,7 +45,7 @@ noted member epoch = Some (record { member = member; epoch = epoch; mask = recor
 
 -- All that the other lacks of the first page by its summary once it has heard these, and what it knows once it is handed that.
 abbrev given : Life → List Input → Life → List Input → List Record
-given a made b had = all_lacking (node_after a made) (page (node_after b had) 0)
+given a made b had = all_lacking (node_after a made) b.setting.me (page (node_after b had) 0)
 
 abbrev known : Life → List Input → Life → List Input → List NoteBody
 known a made b had = notes_after b (had ++ Delivers (datagram_bytes (kinds.Records 1 (given a made b had))) ∷ [])
@@ -58,7 +58,7 @@ abbrev three : Life
 three = life (setting 3) (certificate 3 ∷ [])
 
 enough : let notes = known one (hears_note 2 4 ∷ []) three [] in
-    (lacking (node_after one (hears_note 2 4 ∷ [])) (page (node_after three []) 0) ≡ given one (hears_note 2 4 ∷ []) three [])
+    (lacking (node_after one (hears_note 2 4 ∷ [])) 3 (page (node_after three []) 0) ≡ given one (hears_note 2 4 ∷ []) three [])
     × (newest notes 1 ≡ noted 1 1) × (newest notes 2 ≡ noted 2 4) × (newest notes 3 ≡ noted 3 1)
 unfolding all_numbers in_view_by started signs signs_and_sends wants takes lives state_of delivered handles refusal sends certificate_of neighbours answering_mask bits_where page lacking read_of whole_of datagram_at head_at items_at content_at records_at counted_at record_at body_at certificate_at note_at accusation_at key_at signature_at head_bytes records_bytes note_bytes accusation_bytes certificate_bytes key_bytes
 enough = (refl, refl, refl, refl)
@@ -169,7 +169,7 @@ meet =
 abbrev told : List ℕ
 told = datagram_bytes (kinds.Records 1 (given (alone 1) [] (alone 3) []))
 
-holds : HoldsAllLacking (sized 1) (node_after (alone 1) []) (page (node_after (alone 3) []) 0) told
+holds : HoldsAllLacking (sized 1) (node_after (alone 1) []) 3 (page (node_after (alone 3) []) 0) told
 unfolding all_numbers in_view_by started signs takes lives state_of page lacking bits_where head_bytes records_bytes note_bytes certificate_bytes key_bytes
 holds = record { whole = refl; spelled = refl }
 

@@ -25,7 +25,6 @@ use Rattle.records.specs.declared.CertBody.{CertBody}
 use Rattle.records.specs.declared.Body.{Body}
 use Rattle.records.specs.declared.Body.TheVariants.{Certificate, Note, Accusation}
 use Rattle.records.specs.declared.Record.{Record}
-use Rattle.record_set.specs.Held.{key_of}
 use Rattle.validate.specs.Table.{certificate_fault, signature_fault, own_ahead}
 use Rattle.journal.specs.declared.event.What.TheVariants as told
 use Rattle.node_rules.specs.Nodes.{Setting, Node, state_of, event_of, certificate_in, certificate_of, is_certified, public_key_of, neighbours}
@@ -33,13 +32,13 @@ use Rattle.node_rules.specs.Refusals.{refusal, refusal_of}
 use Rattle.node_rules.specs.Calls.{Call, tells, takes, signs, signs_and_sends, wants, stops, sends_to_all, is_used_up, own_record}
 use Rattle.datagram.specs.declared.Datagram.{Datagram}
 use Rattle.datagram.specs.declared.Datagram.TheVariants as kinds
-use Rattle.node_rules.specs.Deliveries.{answer_to, answers, judged, handles, handles_all}
+use Rattle.node_rules.specs.Deliveries.{asked_with, gives_note, settles, judged, handles, handles_all}
 use Rattle.node_rules.specs.Vouching.{OwnSignaturesVerify}
 use Rattle.node_rules.specs.OneExchange.{HasAtLeast, IsKnownAmong, AgreeOnCertificates}
 use Rattle.node_rules.proofs.Small.{node-sends_to_all, state-takes}
 use Rattle.node_rules.proofs.Keeping.{keeps-handles}
 use Rattle.node_rules.proofs.Growth.{held-takes, certificate_at, certificate-signs, Follows, follows-itself, following, note-is_none}
-use Rattle.node_rules.proofs.Upholding.{some_is, IsFiled, certificate-certificate, note-certificate, accusation-certificate, greater-accepted, unless-none}
+use Rattle.node_rules.proofs.Upholding.{some_is, AreFiled, certificate-filed, certificate-certificate, note-certificate, accusation-certificate, greater-accepted, unless-none}
 use Rattle.node_rules.proofs.Correctness.{KeepsAll, keeping-all}
 
 -- ---- lists
@@ -87,13 +86,10 @@ node-wants works s body addressees c P kept signed =
     (λ yes. kept)
     (λ left. cond_both works (sends_to_all s all d c1) (stops s c) (λ x. P x.node) (λ yes. subst P (sym (node-sends_to_all s all d c1)) (signed left)) (λ fails. kept))
 
-certificate-answers : (works : Bool) (s : Setting) (b : Body) (c : Call) (m : ℕ) → certificate_of (answers works s b c).node m ≡ certificate_of c.node m
-certificate-answers works s (Certificate x) c m = refl
-certificate-answers works s (Note x) c m = refl
-certificate-answers works s (Accusation a) c m =
-    cond_both (eqb a.accused s.me) (wants works s (answer_to s c.node.stored a) (neighbours s) c) c (λ x. certificate_of x.node m ≡ certificate_of c.node m)
-    (λ yes. node-wants works s (answer_to s c.node.stored a) (neighbours s) c (λ n. certificate_of n m ≡ certificate_of c.node m) refl (λ left. certificate-signs s (answer_to s c.node.stored a) c m (λ x e. note-is_none _ x e)))
-    (λ no. refl)
+certificate-gives : (works : Bool) (s : Setting) (note : Option NoteBody) (c : Call) (m : ℕ) → certificate_of (gives_note works s note c).node m ≡ certificate_of c.node m
+certificate-gives works s None c m = refl
+certificate-gives works s (Some note) c m =
+    node-wants works s (Note note) (neighbours s) c (λ n. certificate_of n m ≡ certificate_of c.node m) refl (λ left. certificate-signs s (Note note) c m (note-is_none note))
 
 -- A certificate that is kept was kept, or is the record's.
 data HowCertified (n : Node) (r : Record) (m : ℕ) (d : CertBody) : Type 0 where
@@ -117,11 +113,12 @@ certified-with s r c m d (Certificate x) is e =
       | inr other ↦ before (sym (ap (λ b. option_and_then (λ y. certificate_in y.body) (cond b (Some r) (c.node.held (keys.Certificate m)))) other) ∙ sym at ∙ e)
     ]
 
+certified-settled : (s : Setting) (f : Option Fault) (r : Record) (c : Call) (m : ℕ) (d : CertBody) → certificate_of (settles s f r c).node m ≡ Some d → HowCertified c.node r m d
+certified-settled s (Some fault) r c m d e = before e
+certified-settled s None r c m d e = certified-with s r (tells s (told.Took r.body None) c) m d r.body refl e
+
 certified-judged : (s : Setting) (f : Option Fault) (r : Record) (c : Call) (m : ℕ) (d : CertBody) → certificate_of (judged true s f r c).node m ≡ Some d → HowCertified c.node r m d
-certified-judged s (Some fault) r c m d e = before e
-certified-judged s None r c m d e =
-    let c1 : Call = tells s (told.Took r.body None) c in
-    certified-with s r c1 m d r.body refl (sym (certificate-answers true s r.body (takes s r c1) m) ∙ e)
+certified-judged s f r c m d e = certified-settled s f r c m d (sym (certificate-gives true s (asked_with s c.node f r.body r) (settles s f r c) m) ∙ e)
 
 certified-handles : (s : Setting) (c : Call) (r : Record) (m : ℕ) (d : CertBody) → certificate_of (handles true s c r).node m ≡ Some d → HowCertified c.node r m d
 unfolding handles
@@ -132,10 +129,10 @@ certified-handles s c r m d e = certified-judged s (refusal s c.node r) r c m d 
 abbrev pub IsHeld : Node → Record → Type 0
 IsHeld n r = (k : RecordKey) × (n.held k ≡ Some r)
 
-certificate-held : (n : Node) (r : Record) (d : CertBody) (m : ℕ) → IsFiled n.held → IsHeld n r → r.body ≡ Certificate d → d.member ≡ m → certificate_of n m ≡ Some d
+certificate-held : (n : Node) (r : Record) (d : CertBody) (m : ℕ) → AreFiled n.held → IsHeld n r → r.body ≡ Certificate d → d.member ≡ m → certificate_of n m ≡ Some d
 unfolding certificate_of
 certificate-held n r d m filed held is who =
-    let place : keys.Certificate m ≡ held.0 = sym (ap (λ k. keys.Certificate k) who) ∙ sym (ap key_of is) ∙ filed held.0 r held.1 in
+    let place : keys.Certificate m ≡ held.0 = sym (ap (λ k. keys.Certificate k) who) ∙ sym (certificate-filed r.body d held.0 is (filed held.0 r held.1)) in
     ap (option_and_then (λ y. certificate_in y.body)) (ap n.held place ∙ held.1) ∙ ap certificate_in is
 
 -- Where a call stands that is handed the records of the other: what it upholds, that it goes on from where it was,
@@ -145,7 +142,7 @@ pub record Stands (s : Setting) (own : Key) (other earlier : Node) (c : Call) : 
   pub follows : Follows s earlier c.node
   pub agrees : AgreeOnCertificates other c.node
 
-agree-handles : (s : Setting) (other : Node) (c : Call) (r : Record) → IsFiled other.held → IsHeld other r → AgreeOnCertificates other c.node → AgreeOnCertificates other (handles true s c r).node
+agree-handles : (s : Setting) (other : Node) (c : Call) (r : Record) → AreFiled other.held → IsHeld other r → AgreeOnCertificates other c.node → AgreeOnCertificates other (handles true s c r).node
 agree-handles s other c r filed held agrees =
     λ m x d theirs ours.
     elim (certified-handles s c r m d ours) [
@@ -156,7 +153,7 @@ agree-handles s other c r filed held agrees =
 pub record Handing (s : Setting) (own : Key) (other : Node) : Type 0 where
   pub some : 1 ≤ s.group.t
   pub signs : OwnSignaturesVerify s own
-  pub filed : IsFiled other.held
+  pub filed : AreFiled other.held
 
 pub stands-handles : (s : Setting) (own : Key) (other earlier : Node) (c : Call) (r : Record) → Handing s own other → IsHeld other r → Stands s own other earlier c → Stands s own other earlier (handles true s c r)
 stands-handles s own other earlier c r handing held h =
@@ -203,7 +200,7 @@ certificate-fine s n r x is verifies none =
     ∙ ap (λ o. option_or (certificate_fault o x) (signature_fault s.verifies (Some s.authority) r)) none
     ∙ ap (λ b. cond b None (Some faults.BadSignature)) verifies
 
-handled-fine : (s : Setting) (c : Call) (r : Record) → refusal s c.node r ≡ None → handles true s c r ≡ answers true s r.body (takes s r (tells s (told.Took r.body None) c))
+handled-fine : (s : Setting) (c : Call) (r : Record) → refusal s c.node r ≡ None → handles true s c r ≡ gives_note true s (asked_with s c.node None r.body r) (takes s r (tells s (told.Took r.body None) c))
 unfolding handles
 handled-fine s c r fine = ap (λ f. judged true s f r c) fine
 
@@ -222,7 +219,7 @@ certifies s c r x is verifies = by (certificate_of c.node x.member) refl
     by None e =
         let c1 : Call = tells s (told.Took r.body None) c in
         ap (λ (d : Call). is_certified d.node x.member) (handled-fine s c r (certificate-fine s c.node r x is verifies e))
-        ∙ ap is_some (certificate-answers true s r.body (takes s r c1) x.member)
+        ∙ ap is_some (certificate-gives true s (asked_with s c.node None r.body r) (takes s r c1) x.member)
         ∙ certified-taken s c1 r x is
 
 -- ---- a note is known from then on
@@ -311,7 +308,7 @@ notes s own other earlier c r x of h certified own_known =
           let accepted : refusal s c.node r ≡ None = note-fine s c.node r x of.cert.key of.is fine author of.verifies ahead in
           let c1 : Call = tells s (told.Took r.body None) c in
           let whole : (handles true s c r).node ≡ (takes s r c1).node =
-          ap (λ (d : Call). d.node) (handled-fine s c r accepted) ∙ ap (λ b. (answers true s b (takes s r c1)).node) of.is in
+          ap (λ (d : Call). d.node) (handled-fine s c r accepted) ∙ ap (λ b. (gives_note true s (asked_with s c.node None b r) (takes s r c1)).node) of.is in
           record {
             kept = x;
             is_newest = ap (λ n. newest (state_of s n).notes x.member) whole ∙ notes-taken s r x c1 of.is fine later;

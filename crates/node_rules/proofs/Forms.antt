@@ -1,9 +1,7 @@
 -- What a correct node holds can be sent: each number is within its range, and each signature has its length.
-use Rattle.std.proofs.Common.{◌≡◌, ℕ, ◌+◌, ◌^◌, ◌≤◌, ◌<◌, true, false, eqb, cond, inl, inr, List, [], ◌∷◌, ◌++◌, Option, Some, None, refl, ap, sym, ◌∙◌, subst, arith}
+use Rattle.std.proofs.Common.{◌≡◌, ℕ, ◌+◌, ◌^◌, ◌≤◌, ◌<◌, true, false, eqb, inl, inr, List, [], ◌∷◌, Option, Some, None, refl, ap, sym, ◌∙◌, subst, arith}
 use Rattle.std.specs.List.{AllByRecursion, list_any, slice_get}
 use Rattle.std.specs.Option.{option_and_then, option_map_or}
-use Rattle.std.specs.Ordering.{eq_by_cmp}
-use Rattle.std.proofs.lemmas.Bool.{cases_Bool}
 use Rattle.ff_ids.proofs.MaskLemmas.{good_mask-fits}
 use Rattle.std.proofs.lemmas.List.Elements.{recursion_from_All}
 use Rattle.ff_ids.specs.declared.TheConstants.{MAX_TOLERANCE, MEMBERS}
@@ -14,7 +12,7 @@ use Rattle.ff_ids.specs.declared.summary.RecordKey.TheVariants as keys
 use Rattle.ff_ids.specs.Masks.{note_mask}
 use Rattle.ff_ids.specs.Notes.{newest}
 use Rattle.ff_ids.specs.Views.{State}
-use Rattle.ff_ids.specs.Steps.{Event, Ticks, step}
+use Rattle.ff_ids.specs.Steps.{Event, Ticks}
 use Rattle.life_laws.proofs.NoteLemmas.{newest-fits}
 use Rattle.records.specs.declared.keys.Key.{Key}
 use Rattle.records.specs.declared.Body.{Body}
@@ -22,7 +20,6 @@ use Rattle.records.specs.declared.Body.TheVariants.{Note, Accusation}
 use Rattle.records.specs.declared.Record.{Record}
 use Rattle.records.specs.Spelling.{HasLength, IsBody}
 use Rattle.records.proofs.Fields.{IsBytes}
-use Rattle.record_set.specs.Held.{key_cmp, key_of}
 use Rattle.epoch_store.specs.declared.Stored.{Stored}
 use Rattle.signer.specs.Signing.{stored_after}
 use Rattle.datagram.specs.declared.Datagram.TheVariants as kinds
@@ -30,10 +27,10 @@ use Rattle.datagram.specs.Spelling.{IsSignedRecord, IsRecordList}
 use Rattle.datagram.specs.Grammar.{read_of}
 use Rattle.datagram.proofs.Readings.{read_found}
 use Rattle.detector.specs.Watching.{newest_epoch}
-use Rattle.node_rules.specs.Nodes.{Setting, Node, Holding, state_of, event_of, with_record}
+use Rattle.node_rules.specs.Nodes.{Setting, Node, Holding, state_of}
 use Rattle.node_rules.specs.Refusals.{refusal}
 use Rattle.node_rules.specs.Calls.{Call, begun, lives, takes, spends, signs, own_record, is_used_up}
-use Rattle.node_rules.specs.Deliveries.{answer_to, answering_note}
+use Rattle.node_rules.specs.Deliveries.{answer_to, answering_note, returning_note, may_rise}
 use Rattle.node_rules.specs.Ticking.{accusation_on, ring_for, monitored_rings}
 use Rattle.node_rules.specs.Replies.{first_mask}
 use Rattle.node_rules.specs.Starting.{blank, opened, started}
@@ -44,7 +41,8 @@ use Rattle.node_rules.specs.Vouching.{OwnSignaturesVerify, IsCertifiedBy}
 use Rattle.node_rules.specs.OneExchange.{Life, node_after, IsCorrect, IsWithinRanges, IsOfBytes}
 use Rattle.node_rules.proofs.Small.{stored-takes, stored-signs}
 use Rattle.node_rules.proofs.OwnNote.{stored-lives}
-use Rattle.node_rules.proofs.Upholding.{some_is, none_some, kept-without_all}
+use Rattle.node_rules.proofs.Carrying.{AsksBack}
+use Rattle.node_rules.proofs.Upholding.{none_some, was-lives, was-takes}
 use Rattle.node_rules.proofs.Correctness.{KeepsAll, keeping-all, all-started, index-left, first-good, takes_all, Certifies}
 use Rattle.node_rules.proofs.WholePages.{HoldsNote, holds-note}
 use Rattle.node_rules.proofs.Walks.{KeepsNode, HasGiven, IsInput, walk-calls}
@@ -55,22 +53,10 @@ abbrev AreFormed : Holding → Type 0
 AreFormed held = (k : RecordKey) (r : Record) → held k ≡ Some r → IsSignedRecord r
 
 formed-lives : (s : Setting) (e : Event) (c : Call) → AreFormed c.node.held → AreFormed (lives s e c).node.held
-unfolding lives
-formed-lives s e c formed =
-    let report = (step s.group (state_of s c.node) e).report in
-    λ k r h. formed k r (kept-without_all (report.expired ++ report.fell) c.node.held k r h)
-
-formed-with : (r : Record) (held : Holding) → IsSignedRecord r → AreFormed held → AreFormed (with_record r held)
-formed-with r held this formed =
-    λ k x h.
-    elim (cases_Bool (eq_by_cmp key_cmp k (key_of r.body))) [
-      | inl same ↦ subst IsSignedRecord (some_is r x (sym (ap (λ b. cond b (Some r) (held k)) same) ∙ h)) this
-      | inr apart ↦ formed k x (sym (ap (λ b. cond b (Some r) (held k)) apart) ∙ h)
-    ]
+formed-lives s e c formed = λ k r h. let before = was-lives s e c k r h in formed before.0 r before.1
 
 formed-takes : (s : Setting) (r : Record) (c : Call) → IsSignedRecord r → AreFormed c.node.held → AreFormed (takes s r c).node.held
-unfolding takes
-formed-takes s r c this formed = formed-with r (lives s (event_of s r.body) c).node.held this (formed-lives s (event_of s r.body) c formed)
+formed-takes s r c this formed = λ k x h. elim (was-takes s r c k x h) [ inl same ↦ subst IsSignedRecord same this | inr before ↦ formed before.0 x before.1 ]
 
 formed-signs : (s : Setting) (b : Body) (c : Call) → IsSignedRecord (own_record s c.node b) → AreFormed c.node.held → AreFormed (signs s b c).node.held
 unfolding signs
@@ -115,18 +101,30 @@ next-formed s n mask ranged le left allowed =
     }
 
 formed-answers : (s : Setting) (own : Key) (r : Record) (a : AccBody) (c : Call) → IsRanged s → 1 ≤ s.group.t → OwnSignaturesVerify s own → IsSignedRecord r → refusal s c.node r ≡ None → r.body ≡ Accusation a → eqb a.accused s.me ≡ true
-    → is_used_up s (takes s r c).node ≡ false → Formed s own c.node → Formed s own (signs s (answer_to s (takes s r c).node.stored a) (takes s r c)).node
-formed-answers s own r a c ranged some sign given fine is me left h =
+    → may_rise s.heal c.node ≡ true → is_used_up s (takes s r c).node ≡ false → Formed s own c.node → Formed s own (signs s (answer_to s (takes s r c).node.stored a) (takes s r c)).node
+formed-answers s own r a c ranged some sign given fine is me may left h =
     let c1 : Call = takes s r c in
     let h1 : Formed s own c1.node = formed-takes_given s own r c some sign given fine h in
     let x : NoteBody = answering_note s c1.node.stored a in
-    let all : KeepsAll s own (signs s (Note x) c1).node = (keeping-all s own some sign).answered r a c fine is me left h.all in
+    let all : KeepsAll s own (signs s (Note x) c1).node = (keeping-all s own some sign).answered r a c fine is me may left h.all in
     let allowed : note_mask s.group.t x.mask.0 ≡ true = sym (ap (λ (k : Stored). note_mask s.group.t k.mask.0) (stored-signs s (Note x) c1)) ∙ all.own_note.allowed in
     let index : c1.node.stored.next < s.indexes = index-left s c1.node left h1.all.within in
     record {
       all = all;
       held = formed-signs s (Note x) c1 (own-signed s own (Note x) c1.node ranged sign index (next-formed s c1.node x.mask.0 ranged h1.epoch index allowed)) h1.held;
       epoch = subst (λ k. k.epoch ≤ k.next) (sym (stored-signs s (Note x) c1)) (epoch-note c1.node.stored x refl h1.epoch);
+    }
+
+-- the note by which the node comes back
+formed-returns : (s : Setting) (own : Key) (r : Record) (a : AccBody) (c : Call) → IsRanged s → 1 ≤ s.group.t → OwnSignaturesVerify s own → AsksBack s c.node r a → may_rise s.heal c.node ≡ true → is_used_up s c.node ≡ false
+    → Formed s own c.node → Formed s own (signs s (Note (returning_note s c.node.stored)) c).node
+formed-returns s own r a c ranged some sign asks may left h =
+    let x : NoteBody = returning_note s c.node.stored in
+    let index : c.node.stored.next < s.indexes = index-left s c.node left h.all.within in
+    record {
+      all = (keeping-all s own some sign).returned r a c asks may left h.all;
+      held = formed-signs s (Note x) c (own-signed s own (Note x) c.node ranged sign index (next-formed s c.node c.node.stored.mask.0 ranged h.epoch index h.all.own_note.allowed)) h.held;
+      epoch = subst (λ k. k.epoch ≤ k.next) (sym (stored-signs s (Note x) c)) (epoch-note c.node.stored x refl h.epoch);
     }
 
 -- the note by which the node leaves
@@ -181,7 +179,8 @@ keeping-formed : (s : Setting) (own : Key) → IsRanged s → 1 ≤ s.group.t �
 keeping-formed s own ranged some sign =
     record {
       taken = λ r c given fine h. formed-takes_given s own r c some sign given fine h;
-      answered = λ r a c given fine is me left h. formed-answers s own r a c ranged some sign given fine is me left h;
+      answered = λ r a c given fine is me may left h. formed-answers s own r a c ranged some sign given fine is me may left h;
+      returned = λ r a c asks may left h. formed-returns s own r a c ranged some sign asks may left h;
       accused = λ m ring c found left h. formed-accuses s own m ring c ranged some sign found left h;
       departed = λ c left h. formed-leaves s own c ranged some sign left h;
       passed = λ c h.
@@ -191,6 +190,8 @@ keeping-formed s own ranged some sign =
             epoch = subst (λ k. k.epoch ≤ k.next) (sym (stored-lives s Ticks c)) h.epoch;
           };
       probed = λ p c h. record { all = (keeping-all s own some sign).probed p c h.all; held = h.held; epoch = h.epoch };
+      spanned = λ c h. record { all = (keeping-all s own some sign).spanned c h.all; held = h.held; epoch = h.epoch };
+      spread = λ c h. record { all = (keeping-all s own some sign).spread c h.all; held = h.held; epoch = h.epoch };
     }
 
 -- ---- the start

@@ -3,12 +3,12 @@ use Rattle.std.proofs.Common.{◌≡◌, ℕ, ◌+◌, Bool, true, false, cond, 
 use Rattle.std.specs.Prelude.{Ok}
 use Rattle.std.proofs.lemmas.Bool.{cond_both, cases_Bool}
 use Rattle.std.proofs.lemmas.List.{append_assoc}
-use Rattle.ff_ids.specs.declared.AccBody.{AccBody}
+use Rattle.ff_ids.specs.declared.NoteBody.{NoteBody}
 use Rattle.ff_ids.specs.declared.Fault.{Fault}
 use Rattle.ff_ids.specs.Views.{State}
 use Rattle.ff_ids.specs.Steps.{Event, Notes, Ticks}
 use Rattle.records.specs.declared.Body.{Body}
-use Rattle.records.specs.declared.Body.TheVariants.{Certificate, Note, Accusation}
+use Rattle.records.specs.declared.Body.TheVariants.{Note, Accusation}
 use Rattle.records.specs.declared.Record.{Record}
 use Rattle.epoch_store.specs.declared.Stored.{Stored}
 use Rattle.datagram.specs.declared.Datagram.TheVariants as kinds
@@ -19,15 +19,15 @@ use Rattle.node_rules.specs.Nodes.{Setting, Node, state_of, event_of, neighbours
 use Rattle.node_rules.specs.Pages.{partner}
 use Rattle.node_rules.specs.Refusals.{refusal}
 use Rattle.node_rules.specs.Calls.{Call, begun, tells, lives, takes, signs, wants, sends, is_used_up}
-use Rattle.node_rules.specs.Deliveries.{answer_to, answering_note, answers, judged, handles, handles_all, delivered}
-use Rattle.node_rules.specs.Ticking.{has_accused, accuses, accuses_all, is_due, watched_by, silent_in, pings_in, round_of, pings_all, passed, probed_at, due_tick, ticked}
+use Rattle.node_rules.specs.Deliveries.{asked_with, gives_note, settles, judged, handles, handles_all, delivered}
+use Rattle.node_rules.specs.Ticking.{has_accused, accuses, accuses_all, spreads, is_due, watched_by, silent_in, pings_in, round_of, pings_all, passed, probed_at, spread_at, due_tick, ticked}
 use Rattle.node_rules.specs.Verdicts.{when_handled}
-use Rattle.node_rules.specs.Answering.{accusation_to_answer, asked_by}
+use Rattle.node_rules.specs.Answering.{asked_by}
 use Rattle.node_rules.specs.Outgoing.{at_tick, unaccused, to_accuse, accusation_of}
 use Rattle.node_rules.specs.Gaining.{ComesTo, accepted_event, answer_event, gained, accusation_events}
-use Rattle.node_rules.proofs.Small.{node-sends, stored-takes}
+use Rattle.node_rules.proofs.Small.{node-sends, node-spreads, stored-settles}
 use Rattle.node_rules.proofs.Handling.{nil-right, node-wants, node-handles}
-use Rattle.node_rules.proofs.Ticks.{Stands, Wants, wants-it, stands-on, stands-accused, accused-already, one-stored, next_index, kept_front, dropped_front, silent-never, starts, stored-probed, summary-node}
+use Rattle.node_rules.proofs.Ticks.{Stands, Wants, wants-it, stands-on, stands-accused, accused-already, one-stored, next_index, kept_front, dropped_front, silent-never, starts, stored-spread, summary-node}
 
 -- ---- records
 
@@ -53,36 +53,33 @@ lived-wants s body addressees c =
     by_case false x y e h = h
 
 -- by what the store keeps
-abbrev event_by : Setting → Stored → Option AccBody → List Event
+abbrev event_by : Setting → Stored → Option NoteBody → List Event
 event_by s kept None = []
-event_by s kept (Some a) = cond (eqb kept.next s.indexes) [] (Notes (answering_note s kept a) ∷ [])
+event_by s kept (Some note) = cond (eqb kept.next s.indexes) [] (Notes note ∷ [])
 
-lived-answers : (s : Setting) (b : Body) (c : Call) → ComesTo (c.node.lived ++ event_by s c.node.stored (accusation_to_answer s None b)) c.node.probes (answers true s b c)
-lived-answers s (Certificate x) c = record { lived_so = sym (nil-right c.node.lived); probes_so = refl }
-lived-answers s (Note x) c = record { lived_so = sym (nil-right c.node.lived); probes_so = refl }
-lived-answers s (Accusation a) c =
-    elim (cases_Bool (eqb a.accused s.me)) [
-      | inl me ↦ rw me (lived-wants s (answer_to s c.node.stored a) (neighbours s) c)
-      | inr other ↦ rw other (record { lived_so = sym (nil-right c.node.lived); probes_so = refl })
-    ]
+lived-gives_note : (s : Setting) (note : Option NoteBody) (c : Call) → ComesTo (c.node.lived ++ event_by s c.node.stored note) c.node.probes (gives_note true s note c)
+lived-gives_note s None c = record { lived_so = sym (nil-right c.node.lived); probes_so = refl }
+lived-gives_note s (Some note) c = lived-wants s (Note note) (neighbours s) c
+
+lived-settles : (s : Setting) (f : Option Fault) (r : Record) (c : Call) → ComesTo (c.node.lived ++ accepted_event s f r.body) c.node.probes (settles s f r c)
+lived-settles s (Some f) r c = record { lived_so = sym (nil-right c.node.lived); probes_so = refl }
+lived-settles s None r c = let t = lived-takes s r (tells s (told.Took r.body None) c) in record { lived_so = t.lived_so; probes_so = t.probes_so }
 
 lived-judged : (s : Setting) (f : Option Fault) (r : Record) (c : Call)
-    → ComesTo (c.node.lived ++ accepted_event s f r.body ++ event_by s c.node.stored (accusation_to_answer s f r.body)) c.node.probes (judged true s f r c)
-lived-judged s (Some f) r c = record { lived_so = sym (nil-right (c.node.lived ++ []) ∙ nil-right c.node.lived); probes_so = refl }
-lived-judged s None r c =
-    let c0 : Call = tells s (told.Took r.body None) c in
-    let c1 : Call = takes s r c0 in
-    let t = lived-takes s r c0 in
-    let a = lived-answers s r.body c1 in
-    let o : Option AccBody = accusation_to_answer s None r.body in
+    → ComesTo (c.node.lived ++ accepted_event s f r.body ++ event_by s c.node.stored (asked_with s c.node f r.body r)) c.node.probes (judged true s f r c)
+lived-judged s f r c =
+    let note : Option NoteBody = asked_with s c.node f r.body r in
+    let c1 : Call = settles s f r c in
+    let t = lived-settles s f r c in
+    let a = lived-gives_note s note c1 in
     record {
-      lived_so = a.lived_so ∙ ap (λ xs. xs ++ event_by s c1.node.stored o) t.lived_so ∙ ap (λ k. (c.node.lived ++ event_of s r.body ∷ []) ++ event_by s k o) (stored-takes s r c0);
+      lived_so = a.lived_so ∙ ap (λ xs. xs ++ event_by s c1.node.stored note) t.lived_so ∙ ap (λ k. (c.node.lived ++ accepted_event s f r.body) ++ event_by s k note) (stored-settles s f r c);
       probes_so = a.probes_so ∙ t.probes_so;
     }
 
-event-is : (s : Setting) (n : Node) (o : Option AccBody) → event_by s n.stored o ≡ answer_event s n o
+event-is : (s : Setting) (n : Node) (o : Option NoteBody) → event_by s n.stored o ≡ answer_event s n o
 event-is s n None = refl
-event-is s n (Some a) = refl
+event-is s n (Some note) = refl
 
 lived-handles : (s : Setting) (c : Call) (r : Record) → ComesTo (c.node.lived ++ accepted_event s (refusal s c.node r) r.body ++ answer_event s c.node (asked_by s c.node r)) c.node.probes (handles true s c r)
 unfolding handles
@@ -165,16 +162,23 @@ node-pings : (s : Setting) (pings : List (ℕ × ℕ)) (c : Call) → (pings_all
 node-pings s [] c = refl
 node-pings s (p ∷ pings) c = node-pings s pings (sends s (kinds.Ping s.me p.1) c p.0) ∙ node-sends s (kinds.Ping s.me p.1) c p.0
 
-node-due : (s : Setting) (accused : List ℕ) (pings : List (ℕ × ℕ)) (round : ℕ) (c : Call) → (due_tick s accused pings round c).node ≡ (accuses_all s accused c).node
+node-due : (s : Setting) (accused : List ℕ) (pings : List (ℕ × ℕ)) (round : ℕ) (c : Call) → (due_tick s accused pings round c).node ≡ (accuses_all s accused (spreads s c)).node
 unfolding due_tick
 node-due s accused pings round c =
-    let c1 : Call = accuses_all s accused c in
+    let c1 : Call = accuses_all s accused (spreads s c) in
     let c2 : Call = pings_all s pings c1 in
     summary-node s round (partner s c2.node round) c2 ∙ node-pings s pings c1
 
 lived-probed : (s : Setting) (n : Node) → ComesTo (n.lived ++ Ticks ∷ []) (probed n.probes (is_due s (state_of s (at_tick s n))) (watched_by s (state_of s (at_tick s n)))) (probed_at s n)
 unfolding probed_at passed lives
 lived-probed s n = record { lived_so = refl; probes_so = refl }
+
+lived-spread : (s : Setting) (n : Node) → ComesTo (n.lived ++ Ticks ∷ []) (probed n.probes (is_due s (state_of s (at_tick s n))) (watched_by s (state_of s (at_tick s n)))) (spread_at s n)
+unfolding spread_at
+lived-spread s n =
+    let it = lived-probed s n in
+    let node = node-spreads s (probed_at s n) in
+    record { lived_so = ap (λ (x : Node). x.lived) node ∙ it.lived_so; probes_so = ap (λ (x : Node). x.probes) node ∙ it.probes_so }
 
 tick-case : (b : Bool) (x y : Call) (lived : List Event) (probes : History) → (b ≡ true → ComesTo lived probes x) → (b ≡ false → ComesTo lived probes y) → ComesTo lived probes (cond b x y)
 tick-case true x y lived probes h k = h refl
@@ -183,14 +187,16 @@ tick-case false x y lived probes h k = k refl
 pub lived-ticked : (s : Setting) (n : Node)
     → ComesTo (n.lived ++ Ticks ∷ [] ++ accusation_events s (state_of s (at_tick s n)) (at_tick s n).stored.next (to_accuse s (at_tick s n) (state_of s (at_tick s n))))
     (probed n.probes (is_due s (state_of s (at_tick s n))) (watched_by s (state_of s (at_tick s n)))) (ticked s n)
-unfolding ticked
+unfolding ticked spread_at
 lived-ticked s n =
     let p : Node = at_tick s n in
     let st : State = state_of s p in
     let c : Call = probed_at s n in
     let ms : List ℕ = silent_in s p st in
     let start = lived-probed s n in
-    let accused = all-lived s st c 0 ms (starts s n) in
+    let c0 : Call = spread_at s n in
+    let spread = lived-spread s n in
+    let accused = all-lived s st c0 0 ms (starts s n) in
     let node = node-due s ms (pings_in s p st) (round_of s st) c in
     let lived : List Event = n.lived ++ Ticks ∷ [] in
     let events : ℕ → List ℕ → List Event = λ k xs. accusation_events s st k (unaccused s st xs) in
@@ -198,8 +204,8 @@ lived-ticked s n =
     tick-case (is_due s st) (due_tick s ms (pings_in s p st) (round_of s st) c) c (lived ++ events p.stored.next ms) probes
     (λ due.
     record {
-      lived_so = ap (λ (x : Node). x.lived) node ∙ accused.lived_so ∙ ap (λ xs. xs ++ events c.node.stored.next ms) start.lived_so ∙ ap (λ (k : Stored). lived ++ events k.next ms) (stored-probed s n);
-      probes_so = ap (λ (x : Node). x.probes) node ∙ accused.probes_so ∙ start.probes_so;
+      lived_so = ap (λ (x : Node). x.lived) node ∙ accused.lived_so ∙ ap (λ xs. xs ++ events c0.node.stored.next ms) spread.lived_so ∙ ap (λ (k : Stored). lived ++ events k.next ms) (stored-spread s n);
+      probes_so = ap (λ (x : Node). x.probes) node ∙ accused.probes_so ∙ spread.probes_so;
     })
     (λ never.
     record {

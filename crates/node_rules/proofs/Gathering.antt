@@ -1,14 +1,17 @@
 -- What is held was gathered, and nothing else is sent.
-use Rattle.std.proofs.Common.{◌≡◌, ℕ, ◌-◌, Bool, true, false, cond, eqb, List, [], ◌∷◌, ◌++◌, Option, Some, None, length, map, inl, inr, ◌⊎◌, refl, ap, sym, ◌∙◌, subst}
+use Rattle.std.proofs.Common.{◌≡◌, ℕ, ◌-◌, Bool, true, false, cond, List, [], ◌∷◌, ◌++◌, Option, Some, None, length, map, inl, inr, ◌⊎◌, refl, ap, sym, ◌∙◌, subst}
 use Rattle.std.specs.Prelude.{Result, Ok, Err, is_some, nat_le, filter_map, fold}
 use Rattle.std.specs.List.{Contains}
 use Rattle.std.specs.Ordering.{eq_by_cmp}
-use Rattle.std.proofs.lemmas.Bool.{cond_both}
+use Rattle.std.proofs.lemmas.Bool.{cond_both, cases_Bool}
 use Rattle.std.proofs.lemmas.List.Elements.{filter_map-append}
 use Rattle.ff_ids.specs.declared.AccBody.{AccBody}
+use Rattle.ff_ids.specs.declared.NoteBody.{NoteBody}
 use Rattle.ff_ids.specs.declared.Fault.{Fault}
 use Rattle.ff_ids.specs.declared.summary.RecordKey.{RecordKey}
+use Rattle.ff_ids.specs.declared.summary.RecordKey.TheVariants as keys
 use Rattle.ff_ids.specs.declared.summary.Summary.{Summary}
+use Rattle.ff_ids.specs.Heals.{Heal}
 use Rattle.ff_ids.specs.Views.{State}
 use Rattle.ff_ids.specs.Steps.{Event, Ticks as Passes, Report, step}
 use Rattle.life_laws.proofs.Lists.{In, Contains-from_In, All-from_In, In-append_left, In-append_right, In-append_cases}
@@ -18,7 +21,6 @@ use Rattle.records.specs.declared.Record.{Record}
 use Rattle.records.specs.Spelling.{record_bytes}
 use Rattle.epoch_store.specs.declared.Stored.{Stored}
 use Rattle.record_set.specs.Held.{key_cmp, key_of}
-use Rattle.gossip.specs.Differ.{differ}
 use Rattle.datagram.specs.declared.Datagram.{Datagram}
 use Rattle.datagram.specs.declared.Datagram.TheVariants as kinds
 use Rattle.datagram.specs.Spelling.{datagram_bytes}
@@ -27,12 +29,12 @@ use Rattle.detector.specs.Silence.{counts}
 use Rattle.journal.specs.declared.event.Event as journal
 use Rattle.journal.specs.declared.event.What as whats
 use Rattle.journal.specs.declared.event.What.TheVariants as told
-use Rattle.node_rules.specs.Nodes.{Setting, Node, Holding, state_of, event_of, without, key_of_accusation, neighbours, neighbours_and}
-use Rattle.node_rules.specs.Pages.{page, partner, page_number, lacking, fitting}
+use Rattle.node_rules.specs.Nodes.{Setting, Node, Holding, state_of, event_of, without, without_removal, key_of_accusation, retired, moved, retires, neighbours, neighbours_and}
+use Rattle.node_rules.specs.Pages.{page, partner, page_number, room, wanted, lacking, fitting}
 use Rattle.node_rules.specs.Refusals.{refusal}
 use Rattle.node_rules.specs.Calls.{Call, begun, tells, lives, takes, spends, signs, signs_and_sends, wants, stops, sends, sends_to_all, is_used_up, own_record}
-use Rattle.node_rules.specs.Deliveries.{answer_to, answers, judged, handles, handles_all, is_other, gives, replies, exchanges, pinged, ponged_by, hears, delivered}
-use Rattle.node_rules.specs.Ticking.{accusation_on, ring_for, has_accused, wants_accusation, accuses, accuses_all, is_due, silent_in, pings_in, pings_all, summary_to, round_of, passed, probed_at, due_tick, ticked}
+use Rattle.node_rules.specs.Deliveries.{asked_with, gives_note, settles, judged, handles, handles_all, is_other, gives, replies, exchanges, pinged, ponged_by, hears, delivered}
+use Rattle.node_rules.specs.Ticking.{accusation_on, ring_for, has_accused, wants_accusation, accuses, accuses_all, fresh, spreads_all, spreads, is_due, silent_in, pings_in, pings_all, summary_to, round_of, passed, probed_at, spread_at, due_tick, ticked}
 use Rattle.node_rules.specs.Starting.{blank, opened, started, first_note}
 use Rattle.node_rules.specs.Leaving.{leaving, leaves, left}
 use Rattle.node_rules.specs.Lives.{Input, Delivers, Ticks, call_of, after_calls, Leaves}
@@ -40,7 +42,7 @@ use Rattle.node_rules.specs.Verdicts.{records_in, when_handled}
 use Rattle.node_rules.specs.Known.{made_by, signed_in, accepted_of, accepted_in, gathered, records_of, IsOfKnown, SendsKnown}
 use Rattle.node_rules.proofs.Called.{delivered_until, ticked_until, left_until}
 use Rattle.node_rules.proofs.Accusations.{In-from_filter_map}
-use Rattle.node_rules.proofs.Handling.{node-handles}
+use Rattle.node_rules.proofs.Handling.{nil-right, node-handles}
 
 -- ---- what a call has signed grows
 
@@ -107,20 +109,43 @@ knows-same s known base c d held sent told h =
       sent = λ x i. fits-more s known c d x.1 g (h.sent x (subst (λ xs. In xs x) sent i));
     }
 
+-- Under some key the record is held.
+abbrev pub IsHeld : Node → Record → Type 0
+IsHeld n r = (k : RecordKey) × (n.held k ≡ Some r)
+
+unless : (b : Bool) (o : Option Record) (x : Record) → cond b None o ≡ Some x → o ≡ Some x
+unless true o x h = cc
+unless false o x h = h
+
 -- nothing that ends is held again
 without-some : (gone : List AccBody) (held : Holding) (k : RecordKey) (r : Record) → fold without held (map key_of_accusation gone) k ≡ Some r → held k ≡ Some r
 without-some [] held k r e = e
 without-some (a ∷ gone) held k r e = unless (eq_by_cmp key_cmp k (key_of_accusation a)) (held k) r (without-some gone (without held (key_of_accusation a)) k r e)
-  where
-    unless : (b : Bool) (o : Option Record) (x : Record) → cond b None o ≡ Some x → o ≡ Some x
-    unless true o x h = cc
-    unless false o x h = h
 
-pub held-lives : (s : Setting) (e : Event) (c : Call) (k : RecordKey) (r : Record) → (lives s e c).node.held k ≡ Some r → c.node.held k ≡ Some r
+-- what is held as that by which a member was removed was held as an accusation
+retired-some : (held : Holding) (a : AccBody) (k : RecordKey) (r : Record) → retired held a k ≡ Some r → (before : RecordKey) × (held before ≡ Some r)
+retired-some held a k r e =
+    let pick : Bool → Option Record = λ b. cond b (held (key_of_accusation a)) (held k) in
+    elim (cases_Bool (eq_by_cmp key_cmp k (keys.Removal a.accused))) [
+      | inl here ↦ (key_of_accusation a, sym (ap pick here) ∙ e)
+      | inr apart ↦ (k, sym (ap pick apart) ∙ e)
+    ]
+
+moved-some : (gone : List AccBody) (held : Holding) (k : RecordKey) (r : Record) → fold moved held gone k ≡ Some r → (before : RecordKey) × (held before ≡ Some r)
+moved-some [] held k r e = (k, e)
+moved-some (a ∷ gone) held k r e =
+    let h = moved-some gone (moved held a) k r e in
+    retired-some held a h.0 r (unless (eq_by_cmp key_cmp h.0 (key_of_accusation a)) (retired held a h.0) r h.1)
+
+retires-some : (heal : Option Heal) (rep : Report) (held : Holding) (k : RecordKey) (r : Record) → retires heal rep held k ≡ Some r → (before : RecordKey) × (held before ≡ Some r)
+retires-some None rep held k r e = (k, e)
+retires-some (Some heal) rep held k r e = moved-some rep.expired held k r e
+
+pub held-lives : (s : Setting) (e : Event) (c : Call) (k : RecordKey) (r : Record) → (lives s e c).node.held k ≡ Some r → IsHeld c.node r
 unfolding lives
 held-lives s e c k r h =
     let rep : Report = (step s.group (state_of s c.node) e).report in
-    without-some (rep.expired ++ rep.fell) c.node.held k r h
+    retires-some s.heal rep c.node.held k r (without-some (rep.expired ++ rep.fell) (retires s.heal rep c.node.held) k r h)
 
 sent-lives : (s : Setting) (e : Event) (c : Call) → (lives s e c).sent ≡ c.sent
 unfolding lives
@@ -130,13 +155,23 @@ knows-lives : (s : Setting) (known base : List Record) (e : Event) (c : Call) �
 knows-lives s known base e c h =
     let g = grown-lives s e c in
     record {
-      held = λ k r is. in-more s c (lives s e c) base r g (h.held k r (held-lives s e c k r is));
+      held = λ k r is. let before = held-lives s e c k r is in in-more s c (lives s e c) base r g (h.held before.0 r before.1);
       sent = λ d i. fits-more s known c (lives s e c) d.1 g (h.sent d (subst (λ xs. In xs d) (sent-lives s e c) i));
     }
 
-pub held-takes : (s : Setting) (r : Record) (c : Call) (k : RecordKey) (x : Record) → (takes s r c).node.held k ≡ Some x → (r ≡ x) ⊎ (c.node.held k ≡ Some x)
+removal-some : (b : Body) (held : Holding) (k : RecordKey) (r : Record) → without_removal b held k ≡ Some r → held k ≡ Some r
+removal-some (Certificate x) held k r e = e
+removal-some (Note n) held k r e = unless (eq_by_cmp key_cmp k (keys.Removal n.member)) (held k) r e
+removal-some (Accusation a) held k r e = e
+
+pub held-takes : (s : Setting) (r : Record) (c : Call) (k : RecordKey) (x : Record) → (takes s r c).node.held k ≡ Some x → (r ≡ x) ⊎ IsHeld c.node x
 unfolding takes
-held-takes s r c k x h = elim (by_test (eq_by_cmp key_cmp k (key_of r.body)) ((lives s (event_of s r.body) c).node.held k) h) [ inl e ↦ inl e | inr e ↦ inr (held-lives s (event_of s r.body) c k x e) ]
+held-takes s r c k x h =
+    let lived : Holding = (lives s (event_of s r.body) c).node.held in
+    elim (by_test (eq_by_cmp key_cmp k (key_of r.body)) (without_removal r.body lived k) h) [
+      | inl e ↦ inl e
+      | inr e ↦ inr (held-lives s (event_of s r.body) c k x (removal-some r.body lived k x e))
+    ]
   where
     by_test : (b : Bool) (o : Option Record) → cond b (Some r) o ≡ Some x → (r ≡ x) ⊎ (o ≡ Some x)
     by_test true o e = inl cc
@@ -150,7 +185,7 @@ knows-takes : (s : Setting) (known base : List Record) (r : Record) (c : Call) �
 knows-takes s known base r c here h =
     let g = grown-takes s r c in
     record {
-      held = λ k x is. elim (held-takes s r c k x is) [ inl e ↦ in-more s c (takes s r c) base x g (subst (IsIn base s c) e here) | inr e ↦ in-more s c (takes s r c) base x g (h.held k x e) ];
+      held = λ k x is. elim (held-takes s r c k x is) [ inl e ↦ in-more s c (takes s r c) base x g (subst (IsIn base s c) e here) | inr e ↦ in-more s c (takes s r c) base x g (h.held e.0 x e.1) ];
       sent = λ d i. fits-more s known c (takes s r c) d.1 g (h.sent d (subst (λ xs. In xs d) (sent-takes s r c) i));
     }
 
@@ -214,17 +249,19 @@ knows-wants s known base works body addressees c h =
 
 -- ---- records
 
-knows-answers : (s : Setting) (known base : List Record) (works : Bool) (b : Body) (c : Call) → Knows s known base c → Knows s known base (answers works s b c)
-knows-answers s known base works (Certificate x) c h = h
-knows-answers s known base works (Note x) c h = h
-knows-answers s known base works (Accusation a) c h =
-    cond_both (eqb a.accused s.me) (wants works s (answer_to s c.node.stored a) (neighbours s) c) c (Knows s known base) (λ me. knows-wants s known base works (answer_to s c.node.stored a) (neighbours s) c h) (λ other. h)
+knows-gives_note : (s : Setting) (known base : List Record) (works : Bool) (note : Option NoteBody) (c : Call) → Knows s known base c → Knows s known base (gives_note works s note c)
+knows-gives_note s known base works None c h = h
+knows-gives_note s known base works (Some note) c h = knows-wants s known base works (Note note) (neighbours s) c h
+
+knows-settles : (s : Setting) (known base : List Record) (f : Option Fault) (r : Record) (c : Call) → (f ≡ None → In base r) → Knows s known base c → Knows s known base (settles s f r c)
+knows-settles s known base (Some f) r c here h = knows-tells s known base (told.Took r.body (Some f)) c h
+knows-settles s known base None r c here h =
+    let what : whats.What = told.Took r.body None in
+    knows-takes s known base r (tells s what c) (inl (here refl)) (knows-tells s known base what c h)
 
 knows-judged : (s : Setting) (known base : List Record) (works : Bool) (f : Option Fault) (r : Record) (c : Call) → (f ≡ None → In base r) → Knows s known base c → Knows s known base (judged works s f r c)
-knows-judged s known base works (Some f) r c here h = knows-tells s known base (told.Took r.body (Some f)) c h
-knows-judged s known base works None r c here h =
-    let c0 : Call = tells s (told.Took r.body None) c in
-    knows-answers s known base works r.body (takes s r c0) (knows-takes s known base r c0 (inl (here refl)) (knows-tells s known base (told.Took r.body None) c h))
+knows-judged s known base works f r c here h =
+    knows-gives_note s known base works (asked_with s c.node f r.body r) (settles s f r c) (knows-settles s known base f r c here h)
 
 knows-handles : (s : Setting) (known base : List Record) (works : Bool) (c : Call) (r : Record) → (refusal s c.node r ≡ None → In base r) → Knows s known base c → Knows s known base (handles works s c r)
 unfolding handles
@@ -259,11 +296,11 @@ in-fitting (x ∷ records) room r =
 abbrev pub HeldIn : List Record → Node → Type 0
 HeldIn known n = (k : RecordKey) (r : Record) → n.held k ≡ Some r → In known r
 
-lacking-known : (n : Node) (theirs : Summary) (known : List Record) → HeldIn known n → (r : Record) → In (lacking n theirs) r → In known r
+lacking-known : (n : Node) (from : ℕ) (theirs : Summary) (known : List Record) → HeldIn known n → (r : Record) → In (lacking n from theirs) r → In known r
 unfolding lacking
-lacking-known n theirs known h r i =
-    let keys : List RecordKey = differ (page n theirs.page).listed theirs.listed in
-    let k = In-from_filter_map n.held keys r (in-fitting (filter_map n.held keys) 32760 r i) in
+lacking-known n from theirs known h r i =
+    let all : List RecordKey = wanted n from theirs in
+    let k = In-from_filter_map n.held all r (in-fitting (filter_map n.held all) room r i) in
     h k.0 r k.1.1
 
 knows-gives : (s : Setting) (known base : List Record) (to : ℕ) (records : List Record) (c : Call) → ((r : Record) → In records r → In known r) → Knows s known base c → Knows s known base (gives s to records c)
@@ -289,8 +326,8 @@ knows-exchanges : (s : Setting) (known base : List Record) (from : ℕ) (flag : 
 knows-exchanges s known base from flag theirs c held h =
     let c1 : Call = tells s (told.Summary from theirs.page flag) c in
     let h1 : Knows s known base c1 = knows-tells s known base (told.Summary from theirs.page flag) c h in
-    let c2 : Call = gives s from (lacking c.node theirs) c1 in
-    let h2 : Knows s known base c2 = knows-gives s known base from (lacking c.node theirs) c1 (lacking-known c.node theirs known held) h1 in
+    let c2 : Call = gives s from (lacking c.node from theirs) c1 in
+    let h2 : Knows s known base c2 = knows-gives s known base from (lacking c.node from theirs) c1 (lacking-known c.node from theirs known held) h1 in
     cond_both (is_other s c.node from) (replies s from flag theirs.page c2) c1 (Knows s known base) (λ yes. knows-replies s known base from flag theirs.page c2 h2) (λ no. h1)
 
 knows-hears : (s : Setting) (known base : List Record) (d : Result Datagram ℕ) (n : Node) → HeldIn known n → ((r : Record) → In (accepted_of s n (records_in d)) r → In base r) → Knows s known base (begun n) → Knows s known base (hears s d (begun n))
@@ -332,21 +369,45 @@ knows-probed : (s : Setting) (known base : List Record) (n : Node) → Knows s k
 unfolding probed_at passed
 knows-probed s known base n h = knows-same s known base (lives s Passes (begun n)) (probed_at s n) (λ k. refl) refl refl (knows-lives s known base Passes (begun n) h)
 
-knows-due : (s : Setting) (known base : List Record) (accused : List ℕ) (pings : List (ℕ × ℕ)) (round : ℕ) (c : Call) → Knows s known base c → Knows s known base (due_tick s accused pings round c)
-unfolding due_tick
-knows-due s known base accused pings round c h =
-    let c1 : Call = accuses_all s accused c in
-    let c2 : Call = pings_all s pings c1 in
-    knows-summary s known base round (partner s c2.node round) c2 (knows-pings_all s known base pings c1 (knows-accuses_all s known base accused c h))
+-- what is fresh is held
+fresh-held : (n : Node) (r : Record) → In (fresh n) r → IsHeld n r
+unfolding fresh
+fresh-held n r i =
+    let k = In-from_filter_map n.held n.news r (in-fitting (filter_map n.held n.news) room r i) in
+    (k.0, k.1.1)
 
-knows-ticked : (s : Setting) (known base : List Record) (n : Node) → Knows s known base (begun n) → Knows s known base (ticked s n)
+knows-spreads_all : (s : Setting) (known base : List Record) (records : List Record) (c : Call) → ((r : Record) → In records r → IsIn known s c r) → Knows s known base c → Knows s known base (spreads_all s records c)
+knows-spreads_all s known base [] c all h = h
+knows-spreads_all s known base (r ∷ records) c all h = knows-sends_to_all s known base (neighbours s (state_of s c.node)) (kinds.Records s.me (r ∷ records)) c all h
+
+knows-spreads : (s : Setting) (known base : List Record) (c : Call) → ((r : Record) → In base r → In known r) → Knows s known base c → Knows s known base (spreads s c)
+unfolding spreads
+knows-spreads s known base c all h =
+    let c1 : Call = spreads_all s (fresh c.node) c in
+    let here : (r : Record) → In (fresh c.node) r → IsIn known s c r =
+    λ r i. let k = fresh-held c.node r i in elim (h.held k.0 r k.1) [ inl j ↦ inl (all r j) | inr j ↦ inr j ] in
+    knows-same s known base c1 (record c1 { node = record c1.node { news = [] } }) (λ k. refl) refl refl (knows-spreads_all s known base (fresh c.node) c here h)
+
+knows-spread : (s : Setting) (known base : List Record) (n : Node) → ((r : Record) → In base r → In known r) → Knows s known base (begun n) → Knows s known base (spread_at s n)
+unfolding spread_at
+knows-spread s known base n all h = knows-spreads s known base (probed_at s n) all (knows-probed s known base n h)
+
+knows-due : (s : Setting) (known base : List Record) (accused : List ℕ) (pings : List (ℕ × ℕ)) (round : ℕ) (c : Call) → ((r : Record) → In base r → In known r) → Knows s known base c → Knows s known base (due_tick s accused pings round c)
+unfolding due_tick
+knows-due s known base accused pings round c all h =
+    let c0 : Call = spreads s c in
+    let c1 : Call = accuses_all s accused c0 in
+    let c2 : Call = pings_all s pings c1 in
+    knows-summary s known base round (partner s c2.node round) c2 (knows-pings_all s known base pings c1 (knows-accuses_all s known base accused c0 (knows-spreads s known base c all h)))
+
+knows-ticked : (s : Setting) (known base : List Record) (n : Node) → ((r : Record) → In base r → In known r) → Knows s known base (begun n) → Knows s known base (ticked s n)
 unfolding ticked
-knows-ticked s known base n h =
+knows-ticked s known base n all h =
     let p : Node = (passed s n).node in
     let st : State = state_of s p in
     let h1 : Knows s known base (probed_at s n) = knows-probed s known base n h in
     cond_both (is_due s st) (due_tick s (silent_in s p st) (pings_in s p st) (round_of s st) (probed_at s n)) (probed_at s n) (Knows s known base)
-    (λ due. knows-due s known base (silent_in s p st) (pings_in s p st) (round_of s st) (probed_at s n) h1)
+    (λ due. knows-due s known base (silent_in s p st) (pings_in s p st) (round_of s st) (probed_at s n) all h1)
     (λ never. h1)
 
 -- ---- leaving
@@ -368,7 +429,7 @@ knows-call : (s : Setting) (known : List Record) (n : Node) (i : Input) → Held
 knows-call s known n (Delivers bytes) held =
     let accepted : List Record = accepted_of s n (records_in (read_of bytes)) in
     knows-delivered s known (known ++ accepted) bytes n held (λ r i. In-append_right known accepted r i) (knows-begun s known (known ++ accepted) n held (λ r i. In-append_left known accepted r i))
-knows-call s known n Ticks held = knows-ticked s known (known ++ []) n (knows-begun s known (known ++ []) n held (λ r i. In-append_left known [] r i))
+knows-call s known n Ticks held = knows-ticked s known (known ++ []) n (λ r i. subst (λ xs. In xs r) (nil-right known) i) (knows-begun s known (known ++ []) n held (λ r i. In-append_left known [] r i))
 knows-call s known n Leaves held = knows-left s known (known ++ []) n (knows-begun s known (known ++ []) n held (λ r i. In-append_left known [] r i))
 
 pub in-both : (xs : List Record) (s : Setting) (c : Call) (r : Record) → IsIn xs s c r → In (xs ++ signed_in s c) r
@@ -435,8 +496,9 @@ pub ticked_until-sends : (s : Setting) (known : List Record) (n : Node) (silent 
 unfolding ticked_until
 ticked_until-sends s known n silent m held =
     let begins : Knows s known known (begun n) = knows-begun s known known n held (λ x i. i) in
-    let front : Knows s known known (accuses_all s silent (probed_at s n)) = knows-accuses_all s known known silent (probed_at s n) (knows-probed s known known n begins) in
-    sends-known s known known (accuses false s (accuses_all s silent (probed_at s n)) m) (knows-accuses s known known false (accuses_all s silent (probed_at s n)) m front)
+    let c : Call = accuses_all s silent (spread_at s n) in
+    let front : Knows s known known c = knows-accuses_all s known known silent (spread_at s n) (knows-spread s known known n (λ x i. i) begins) in
+    sends-known s known known (accuses false s c m) (knows-accuses s known known false c m front)
 
 pub left_until-sends : (s : Setting) (known : List Record) (n : Node) → HeldIn known n → SendsKnown s known (left_until s n)
 unfolding left_until

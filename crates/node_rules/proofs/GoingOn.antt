@@ -1,11 +1,12 @@
 -- A call in which the disk works doesn't end the life.
-use Rattle.std.proofs.Common.{◌≡◌, ℕ, Bool, true, false, eqb, List, [], ◌∷◌, Option, Some, None, refl, ◌∙◌}
+use Rattle.std.proofs.Common.{◌≡◌, ℕ, Bool, true, false, List, [], ◌∷◌, Option, Some, None, refl, ◌∙◌}
 use Rattle.std.specs.Prelude.{Result, Ok, Err}
 use Rattle.std.proofs.lemmas.Bool.{cond_both}
 use Rattle.ff_ids.specs.declared.Fault.{Fault}
+use Rattle.ff_ids.specs.declared.NoteBody.{NoteBody}
 use Rattle.ff_ids.specs.Views.{State}
 use Rattle.records.specs.declared.Body.{Body}
-use Rattle.records.specs.declared.Body.TheVariants.{Certificate, Note, Accusation}
+use Rattle.records.specs.declared.Body.TheVariants.{Note}
 use Rattle.records.specs.declared.Record.{Record}
 use Rattle.datagram.specs.declared.Datagram.{Datagram}
 use Rattle.datagram.specs.declared.Datagram.TheVariants as kinds
@@ -15,8 +16,8 @@ use Rattle.node_rules.specs.Nodes.{Setting, Node, state_of, neighbours, neighbou
 use Rattle.node_rules.specs.Pages.{page, partner, page_number, lacking}
 use Rattle.node_rules.specs.Refusals.{refusal}
 use Rattle.node_rules.specs.Calls.{Call, begun, tells, lives, takes, signs, signs_and_sends, wants, sends, sends_to_all, is_used_up, own_record}
-use Rattle.node_rules.specs.Deliveries.{answer_to, answers, judged, handles, handles_all, is_other, gives, replies, hears, delivered}
-use Rattle.node_rules.specs.Ticking.{accusation_on, ring_for, has_accused, wants_accusation, accuses, accuses_all, is_due, silent_in, pings_in, round_of, pings_all, summary_to, passed, probed_at, due_tick, ticked}
+use Rattle.node_rules.specs.Deliveries.{asked_with, gives_note, settles, judged, handles, handles_all, is_other, gives, replies, hears, delivered}
+use Rattle.node_rules.specs.Ticking.{accusation_on, ring_for, has_accused, wants_accusation, accuses, accuses_all, fresh, spreads_all, spreads, is_due, silent_in, pings_in, round_of, pings_all, summary_to, passed, probed_at, spread_at, due_tick, ticked}
 use Rattle.node_rules.specs.Leaving.{leaving, leaves, left}
 use Rattle.node_rules.specs.Lives.{Input, Delivers, Ticks, Leaves, call_of}
 
@@ -50,15 +51,16 @@ on-wants s body addressees c =
 
 -- ---- deliveries
 
-on-answers : (s : Setting) (b : Body) (c : Call) → GoesOn c (answers true s b c)
-on-answers s (Certificate x) c = refl
-on-answers s (Note x) c = refl
-on-answers s (Accusation a) c =
-    cond_both (eqb a.accused s.me) (wants true s (answer_to s c.node.stored a) (neighbours s) c) c (GoesOn c) (λ me. on-wants s (answer_to s c.node.stored a) (neighbours s) c) (λ other. refl)
+on-gives_note : (s : Setting) (note : Option NoteBody) (c : Call) → GoesOn c (gives_note true s note c)
+on-gives_note s None c = refl
+on-gives_note s (Some note) c = on-wants s (Note note) (neighbours s) c
+
+pub on-settles : (s : Setting) (f : Option Fault) (r : Record) (c : Call) → GoesOn c (settles s f r c)
+on-settles s (Some f) r c = refl
+on-settles s None r c = on-takes s r (tells s (told.Took r.body None) c)
 
 on-judged : (s : Setting) (f : Option Fault) (r : Record) (c : Call) → GoesOn c (judged true s f r c)
-on-judged s (Some f) r c = refl
-on-judged s None r c = let c0 : Call = tells s (told.Took r.body None) c in on-answers s r.body (takes s r c0) ∙ on-takes s r c0
+on-judged s f r c = on-gives_note s (asked_with s c.node f r.body r) (settles s f r c) ∙ on-settles s f r c
 
 pub on-handles : (s : Setting) (c : Call) (r : Record) → GoesOn c (handles true s c r)
 unfolding handles
@@ -84,8 +86,8 @@ on-hears s (Ok (kinds.Ping from nonce)) c =
 on-hears s (Ok (kinds.Pong from nonce)) c = refl
 on-hears s (Ok (kinds.Summary from flag theirs)) c =
     let c1 : Call = tells s (told.Summary from theirs.page flag) c in
-    let c2 : Call = gives s from (lacking c.node theirs) c1 in
-    cond_both (is_other s c.node from) (replies s from flag theirs.page c2) c1 (GoesOn c) (λ yes. on-replies s from flag theirs.page c2 ∙ on-gives s from (lacking c.node theirs) c1) (λ no. refl)
+    let c2 : Call = gives s from (lacking c.node from theirs) c1 in
+    cond_both (is_other s c.node from) (replies s from flag theirs.page c2) c1 (GoesOn c) (λ yes. on-replies s from flag theirs.page c2 ∙ on-gives s from (lacking c.node from theirs) c1) (λ no. refl)
 on-hears s (Ok (kinds.Records from records)) c = on-handles_all s records c
 
 on-delivered : (s : Setting) (n : Node) (bytes : List ℕ) → (delivered s n bytes).ended ≡ false
@@ -117,16 +119,29 @@ pub on-summary : (s : Setting) (round : ℕ) (to : Option ℕ) (c : Call) → Go
 on-summary s round None c = refl
 on-summary s round (Some to) c = on-sends s (kinds.Summary s.me false (page c.node (page_number s c.node round))) c to
 
+on-spreads_all : (s : Setting) (records : List Record) (c : Call) → GoesOn c (spreads_all s records c)
+on-spreads_all s [] c = refl
+on-spreads_all s (r ∷ records) c = on-sends_to_all s (neighbours s (state_of s c.node)) (kinds.Records s.me (r ∷ records)) c
+
+on-spreads : (s : Setting) (c : Call) → GoesOn c (spreads s c)
+unfolding spreads
+on-spreads s c = on-spreads_all s (fresh c.node) c
+
 on-due : (s : Setting) (accused : List ℕ) (pings : List (ℕ × ℕ)) (round : ℕ) (c : Call) → GoesOn c (due_tick s accused pings round c)
 unfolding due_tick
 on-due s accused pings round c =
-    let c1 : Call = accuses_all s accused c in
+    let c0 : Call = spreads s c in
+    let c1 : Call = accuses_all s accused c0 in
     let c2 : Call = pings_all s pings c1 in
-    on-summary s round (partner s c2.node round) c2 ∙ on-pings_all s pings c1 ∙ on-accuses_all s accused c
+    on-summary s round (partner s c2.node round) c2 ∙ on-pings_all s pings c1 ∙ on-accuses_all s accused c0 ∙ on-spreads s c
 
 pub on-probed : (s : Setting) (n : Node) → (probed_at s n).ended ≡ false
 unfolding probed_at passed lives
 on-probed s n = refl
+
+pub on-spread : (s : Setting) (n : Node) → (spread_at s n).ended ≡ false
+unfolding spread_at
+on-spread s n = on-spreads s (probed_at s n) ∙ on-probed s n
 
 on-ticked : (s : Setting) (n : Node) → (ticked s n).ended ≡ false
 unfolding ticked

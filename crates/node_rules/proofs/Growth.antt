@@ -23,14 +23,15 @@ use Rattle.record_set.proofs.KeyLemmas.{is_key-true}
 use Rattle.datagram.specs.declared.Datagram.{Datagram}
 use Rattle.detector.specs.Silence.{History}
 use Rattle.validate.specs.Table.{certificate_fault, signature_fault}
-use Rattle.node_rules.specs.Nodes.{Setting, Node, Holding, state_of, event_of, with_record, without, key_of_accusation, certificate_in, certificate_of}
+use Rattle.node_rules.specs.Nodes.{Setting, Node, Holding, state_of, event_of, with_record, without, without_removal, key_of_accusation, certificate_in, certificate_of}
 use Rattle.node_rules.specs.Refusals.{refusal, refusal_of}
 use Rattle.node_rules.specs.Calls.{Call, lives, takes, spends, signs, sends, own_record}
-use Rattle.node_rules.specs.Deliveries.{answer_to}
+use Rattle.node_rules.specs.Deliveries.{answer_to, returning_note}
 use Rattle.node_rules.specs.Leaving.{leaving}
 use Rattle.node_rules.specs.Lives.{Input, call_of, after_calls}
 use Rattle.node_rules.specs.OneExchange.{IsKnownAmong}
 use Rattle.node_rules.proofs.Small.{state_of-lives, state-takes, state-signs}
+use Rattle.node_rules.proofs.Retiring.{IsPlain, retires-plain}
 use Rattle.node_rules.proofs.OwnNote.{option_or-none}
 use Rattle.node_rules.proofs.Keeping.{Keeps, keeps-call}
 
@@ -46,7 +47,7 @@ known-then m xs ys zs first second =
     let k = second h.kept h.is_newest in
     record { kept = k.kept; is_newest = k.is_newest; not_less = not_below-trans k.kept h.kept note k.not_less h.not_less }
 
-known-more : (m : ℕ) (x : NoteBody) (notes : List NoteBody) → IsKnownAmong m notes (x ∷ notes)
+pub known-more : (m : ℕ) (x : NoteBody) (notes : List NoteBody) → IsKnownAmong m notes (x ∷ notes)
 known-more m x notes =
     λ note is.
     elim (cases_Bool (eqb x.member m)) [
@@ -68,17 +69,38 @@ known-step m g st (Notes n) = known-unless m st (note_fault g.t st n) (after_not
 known-step m g st (Accuses a) = known-unless m st (accusation_fault g.t st a) (unchanged (after_accusation st a)) (known-itself m st.notes)
 known-step m g st Ticks = known-itself m st.notes
 
+-- ---- what becomes of removals leaves the other keys
+
+without-plain : (held : Holding) (m : ℕ) (k : RecordKey) → IsPlain k → without held (keys.Removal m) k ≡ held k
+without-plain held m (keys.Certificate x) plain = refl
+without-plain held m (keys.Note x) plain = refl
+without-plain held m (keys.Accusation x ring) plain = refl
+without-plain held m (keys.Removal x) plain = absurd plain
+
+pub removal-plain : (b : Body) (held : Holding) (k : RecordKey) → IsPlain k → without_removal b held k ≡ held k
+removal-plain (Certificate c) held k plain = refl
+removal-plain (Note n) held k plain = without-plain held n.member k plain
+removal-plain (Accusation a) held k plain = refl
+
 -- ---- what is held of certificates and notes: no step drops it
 
 abbrev pub IsLasting : RecordKey → Type 0
 IsLasting (keys.Certificate m) = Unit {0}
 IsLasting (keys.Note m) = Unit {0}
 IsLasting (keys.Accusation m ring) = ⊥
+IsLasting (keys.Removal m) = ⊥
+
+lasting-plain : (k : RecordKey) → IsLasting k → IsPlain k
+lasting-plain (keys.Certificate m) lasting = tt
+lasting-plain (keys.Note m) lasting = tt
+lasting-plain (keys.Accusation m ring) lasting = tt
+lasting-plain (keys.Removal m) lasting = absurd lasting
 
 without-lasting : (held : Holding) (a : AccBody) (k : RecordKey) → IsLasting k → without held (key_of_accusation a) k ≡ held k
 without-lasting held a (keys.Certificate m) lasting = refl
 without-lasting held a (keys.Note m) lasting = refl
 without-lasting held a (keys.Accusation m ring) lasting = absurd lasting
+without-lasting held a (keys.Removal m) lasting = absurd lasting
 
 fold-lasting : (gone : List AccBody) (held : Holding) (k : RecordKey) → IsLasting k → fold without held (map key_of_accusation gone) k ≡ held k
 fold-lasting [] held k lasting = refl
@@ -88,11 +110,13 @@ pub held-lives : (s : Setting) (e : Event) (c : Call) (k : RecordKey) → IsLast
 unfolding lives
 held-lives s e c k lasting =
     let report = (step s.group (state_of s c.node) e).report in
-    fold-lasting (report.expired ++ report.fell) c.node.held k lasting
+    retires-plain s.heal report c.node.held k (lasting-plain k lasting) ∙ fold-lasting (report.expired ++ report.fell) c.node.held k lasting
 
 pub held-takes : (s : Setting) (r : Record) (c : Call) (k : RecordKey) → IsLasting k → (takes s r c).node.held k ≡ with_record r c.node.held k
 unfolding takes
-held-takes s r c k lasting = ap (λ o. cond (eq_by_cmp key_cmp k (key_of r.body)) (Some r) o) (held-lives s (event_of s r.body) c k lasting)
+held-takes s r c k lasting =
+    ap (λ o. cond (eq_by_cmp key_cmp k (key_of r.body)) (Some r) o)
+    (removal-plain r.body (lives s (event_of s r.body) c).node.held k (lasting-plain k lasting) ∙ held-lives s (event_of s r.body) c k lasting)
 
 pub held-signs : (s : Setting) (b : Body) (c : Call) (k : RecordKey) → IsLasting k → (signs s b c).node.held k ≡ with_record (own_record s c.node b) c.node.held k
 unfolding signs
@@ -191,20 +215,31 @@ follows-probed : (s : Setting) (earlier n : Node) (p : History) → Follows s ea
 unfolding certificate_of state_of
 follows-probed s earlier n p h = record { notes = h.notes; certificates = h.certificates }
 
+follows-spanned : (s : Setting) (earlier n : Node) → Follows s earlier n → Follows s earlier (record n { since = n.stored.epoch })
+unfolding certificate_of state_of
+follows-spanned s earlier n h = record { notes = h.notes; certificates = h.certificates }
+
+follows-spread : (s : Setting) (earlier n : Node) → Follows s earlier n → Follows s earlier (record n { news = [] })
+unfolding certificate_of state_of
+follows-spread s earlier n h = record { notes = h.notes; certificates = h.certificates }
+
 pub following : (s : Setting) (earlier : Node) → Keeps s (λ c. Follows s earlier c.node)
 following s earlier =
     record {
       told = λ what c other h. h;
       sent = λ d c to h. follows-sends s earlier d c to h;
       taken = λ r c fine h. follows-takes s earlier r c fine h;
-      answered = λ r a c fine is me left h.
+      answered = λ r a c fine is me may left h.
           let c1 : Call = takes s r c in
           follows-signs s earlier (answer_to s c1.node.stored a) c1 (λ x e. note-is_none _ x e) (follows-takes s earlier r c fine h);
+      returned = λ r a c asks may left h. follows-signs s earlier (Note (returning_note s c.node.stored)) c (note-is_none (returning_note s c.node.stored)) h;
       accused = λ a c by left h. follows-signs s earlier (Accusation a) c (accusation-is_none a) h;
       departed = λ c left h. follows-signs s earlier (leaving s c.node.stored) c (λ x e. note-is_none _ x e) h;
       stopped = λ c h. h;
       passed = λ c h. follows-ticks s earlier c h;
       probed = λ p c h. follows-probed s earlier c.node p h;
+      spanned = λ c h. follows-spanned s earlier c.node h;
+      spread = λ c h. follows-spread s earlier c.node h;
     }
 
 pub follows-calls : (s : Setting) (earlier n : Node) (inputs : List Input) → Follows s earlier n → Follows s earlier (after_calls s n inputs)

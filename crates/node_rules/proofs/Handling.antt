@@ -5,6 +5,7 @@ use Rattle.std.proofs.lemmas.Bool.{cond_both, cases_Bool, false≢true}
 use Rattle.std.proofs.lemmas.List.{append_assoc}
 use Rattle.std.proofs.lemmas.List.Elements.{filter-append}
 use Rattle.ff_ids.specs.declared.AccBody.{AccBody}
+use Rattle.ff_ids.specs.declared.NoteBody.{NoteBody}
 use Rattle.ff_ids.specs.declared.Fault.{Fault}
 use Rattle.ff_ids.specs.Views.{State, is_member}
 use Rattle.ff_ids.specs.Steps.{Event, Report, step, unchanged, joined, unless_fault, after_note, after_accusation}
@@ -26,13 +27,13 @@ use Rattle.node_rules.specs.Nodes.{Setting, Node, state_of, event_of, neighbours
 use Rattle.node_rules.specs.Pages.{page, lacking}
 use Rattle.node_rules.specs.Refusals.{refusal}
 use Rattle.node_rules.specs.Calls.{Call, begun, tells, lives, takes, spends, signs, signs_and_sends, wants, sends, sends_to_all, stops, is_used_up, own_record, told_of}
-use Rattle.node_rules.specs.Deliveries.{answer_to, answers, judged, handles, handles_all, is_other, gives, replies, hears, delivered}
+use Rattle.node_rules.specs.Deliveries.{asked_with, gives_note, settles, judged, handles, handles_all, is_other, gives, replies, hears, delivered}
 use Rattle.node_rules.specs.Lives.{is_of_life}
 use Rattle.node_rules.specs.Stopping.{StopsBehind, WantsAnswer}
 use Rattle.node_rules.specs.Verdicts.{all_at, told_that, is_apart, is_took, records_in, when_handled, when_all_handled, verdict_on, verdicts, is_bad_form, bad_forms, OnlyTells}
-use Rattle.node_rules.specs.Answering.{is_of_signing, accusation_to_answer, asked_by, answered_with, answers_told, records_told, to_each, answer_sent, answers_sent}
+use Rattle.node_rules.specs.Answering.{is_of_signing, asked_by, answered_with, answers_told, records_told, to_each, answer_sent, answers_sent}
 use Rattle.node_rules.proofs.Called.{delivered_until}
-use Rattle.node_rules.proofs.Small.{node-sends_to_all, state-takes, state-signs, stored-takes}
+use Rattle.node_rules.proofs.Small.{node-sends_to_all, state-takes, state-signs, stored-settles}
 
 pub nil-right : {A : Type 0} (xs : List A) → xs ++ [] ≡ xs
 nil-right [] = refl
@@ -187,23 +188,20 @@ node-wants_fresh : (works : Bool) (s : Setting) (body : Body) (addressees : Stat
 node-wants_fresh works s body addressees c =
     node-wants works s body addressees c ∙ ap (λ (n : Node). cond (is_used_up s c.node) c.node (cond works n c.node)) (node-signs s body c) ∙ sym (node-wants works s body addressees (fresh c))
 
-node-answers : (works : Bool) (s : Setting) (b : Body) (c : Call) → (answers works s b c).node ≡ (answers works s b (fresh c)).node
-node-answers works s (Certificate x) c = refl
-node-answers works s (Note x) c = refl
-node-answers works s (Accusation a) c =
-    elim (cases_Bool (eqb a.accused s.me)) [
-      | inl me ↦ rw me (node-wants_fresh works s (answer_to s c.node.stored a) (neighbours s) c)
-      | inr other ↦ rw other refl
-    ]
+node-gives_note : (works : Bool) (s : Setting) (note : Option NoteBody) (c : Call) → (gives_note works s note c).node ≡ (gives_note works s note (fresh c)).node
+node-gives_note works s None c = refl
+node-gives_note works s (Some note) c = node-wants_fresh works s (Note note) (neighbours s) c
+
+node-settles : (s : Setting) (f : Option Fault) (r : Record) (c : Call) → (settles s f r c).node ≡ (settles s f r (fresh c)).node
+node-settles s (Some f) r c = refl
+node-settles s None r c =
+    let what : whats.What = told.Took r.body None in
+    node-takes s r (tells s what c) ∙ sym (node-takes s r (tells s what (fresh c)))
 
 node-judged : (works : Bool) (s : Setting) (f : Option Fault) (r : Record) (c : Call) → (judged works s f r c).node ≡ (judged works s f r (fresh c)).node
-node-judged works s (Some f) r c = refl
-node-judged works s None r c =
-    let what : whats.What = told.Took r.body None in
-    let c1 : Call = takes s r (tells s what c) in
-    let c2 : Call = takes s r (tells s what (fresh c)) in
-    let same : c1.node ≡ c2.node = node-takes s r (tells s what c) ∙ sym (node-takes s r (tells s what (fresh c))) in
-    node-answers works s r.body c1 ∙ ap (λ n. (answers works s r.body (begun n)).node) same ∙ sym (node-answers works s r.body c2)
+node-judged works s f r c =
+    let note : Option NoteBody = asked_with s c.node f r.body r in
+    node-gives_note works s note (settles s f r c) ∙ ap (λ n. (gives_note works s note (begun n)).node) (node-settles s f r c) ∙ sym (node-gives_note works s note (settles s f r (fresh c)))
 
 pub node-handles : (works : Bool) (s : Setting) (c : Call) (r : Record) → (handles works s c r).node ≡ (handles works s (fresh c) r).node
 unfolding handles
@@ -211,54 +209,50 @@ node-handles works s c r = node-judged works s (refusal s c.node r) r c
 
 -- ---- one record
 
--- What the answer to a record reports, if it wants one.
-abbrev pub asked : Bool → Setting → Stored → Option AccBody → List whats.What
+-- What the note that a record asks reports, if it asks one.
+abbrev pub asked : Bool → Setting → Stored → Option NoteBody → List whats.What
 asked works s kept None = []
-asked works s kept (Some a) = wanted works s kept (answer_to s kept a) ∷ []
+asked works s kept (Some note) = wanted works s kept (Note note) ∷ []
 
-that-answers : (test : whats.What → Bool) (works : Bool) (s : Setting) (b : Body) (c : Call) → IsOver test
-    → told_that test (answers works s b c) ≡ told_that test c ++ picked test (state_of s c.node).moment (asked works s c.node.stored (accusation_to_answer s None b))
-that-answers test works s (Certificate x) c over = sym (nil-right (told_that test c))
-that-answers test works s (Note x) c over = sym (nil-right (told_that test c))
-that-answers test works s (Accusation a) c over =
-    elim (cases_Bool (eqb a.accused s.me)) [
-      | inl me ↦ rw me (that-wants test works s (answer_to s c.node.stored a) (neighbours s) c over)
-      | inr other ↦ rw other (sym (nil-right (told_that test c)))
-    ]
+that-gives_note : (test : whats.What → Bool) (works : Bool) (s : Setting) (note : Option NoteBody) (c : Call) → IsOver test
+    → told_that test (gives_note works s note c) ≡ told_that test c ++ picked test (state_of s c.node).moment (asked works s c.node.stored note)
+that-gives_note test works s None c over = sym (nil-right (told_that test c))
+that-gives_note test works s (Some note) c over = that-wants test works s (Note note) (neighbours s) c over
+
+that-settles : (test : whats.What → Bool) (s : Setting) (f : Option Fault) (r : Record) (c : Call) → IsOver test → told_that test (settles s f r c) ≡ told_that test c ++ picked test (state_of s c.node).moment (told.Took r.body f ∷ [])
+that-settles test s (Some f) r c over = that-tells test s (told.Took r.body (Some f)) c
+that-settles test s None r c over = let what : whats.What = told.Took r.body None in that-takes test s r (tells s what c) over ∙ that-tells test s what c
+
+moment-settles : (s : Setting) (f : Option Fault) (r : Record) (c : Call) → (state_of s (settles s f r c).node).moment ≡ (state_of s c.node).moment
+moment-settles s (Some f) r c = refl
+moment-settles s None r c = moment-takes s r (tells s (told.Took r.body None) c)
 
 that-judged : (test : whats.What → Bool) (works : Bool) (s : Setting) (f : Option Fault) (r : Record) (c : Call) → IsOver test
-    → told_that test (judged works s f r c) ≡ told_that test c ++ picked test (state_of s c.node).moment (told.Took r.body f ∷ asked works s c.node.stored (accusation_to_answer s f r.body))
-that-judged test works s (Some f) r c over = that-tells test s (told.Took r.body (Some f)) c
-that-judged test works s None r c over =
-    let what : whats.What = told.Took r.body None in
-    let c0 : Call = tells s what c in
-    let c1 : Call = takes s r c0 in
+    → told_that test (judged works s f r c) ≡ told_that test c ++ picked test (state_of s c.node).moment (told.Took r.body f ∷ asked works s c.node.stored (asked_with s c.node f r.body r))
+that-judged test works s f r c over =
+    let what : whats.What = told.Took r.body f in
+    let note : Option NoteBody = asked_with s c.node f r.body r in
+    let c1 : Call = settles s f r c in
     let moment : ℕ = (state_of s c.node).moment in
-    let news : ℕ → Stored → List journal.Event = λ m k. picked test m (asked works s k (accusation_to_answer s None r.body)) in
-    that-answers test works s r.body c1 over
-    ∙ ap (λ xs. xs ++ news (state_of s c1.node).moment c1.node.stored) (that-takes test s r c0 over ∙ that-tells test s what c)
-    ∙ ap (λ m. (told_that test c ++ picked test moment (what ∷ [])) ++ news m c1.node.stored) (moment-takes s r c0)
-    ∙ ap (λ k. (told_that test c ++ picked test moment (what ∷ [])) ++ news moment k) (stored-takes s r c0)
+    let news : ℕ → Stored → List journal.Event = λ m k. picked test m (asked works s k note) in
+    that-gives_note test works s note c1 over
+    ∙ ap (λ xs. xs ++ news (state_of s c1.node).moment c1.node.stored) (that-settles test s f r c over)
+    ∙ ap (λ m. (told_that test c ++ picked test moment (what ∷ [])) ++ news m c1.node.stored) (moment-settles s f r c)
+    ∙ ap (λ k. (told_that test c ++ picked test moment (what ∷ [])) ++ news moment k) (stored-settles s f r c)
     ∙ append_assoc (told_that test c) (picked test moment (what ∷ [])) (news moment c.node.stored)
-    ∙ ap (λ xs. told_that test c ++ xs) (sym (picked-append test moment (what ∷ []) (asked works s c.node.stored (accusation_to_answer s None r.body))))
+    ∙ ap (λ xs. told_that test c ++ xs) (sym (picked-append test moment (what ∷ []) (asked works s c.node.stored note)))
 
 pub that-handles : (test : whats.What → Bool) (works : Bool) (s : Setting) (c : Call) (r : Record) → IsOver test
     → told_that test (handles works s c r) ≡ told_that test c ++ picked test (state_of s c.node).moment (verdict_on s c.node r ∷ asked works s c.node.stored (asked_by s c.node r))
 unfolding handles
 that-handles test works s c r over = that-judged test works s (refusal s c.node r) r c over
 
-moment-answers : (works : Bool) (s : Setting) (b : Body) (c : Call) → (state_of s (answers works s b c).node).moment ≡ (state_of s c.node).moment
-moment-answers works s (Certificate x) c = refl
-moment-answers works s (Note x) c = refl
-moment-answers works s (Accusation a) c =
-    elim (cases_Bool (eqb a.accused s.me)) [
-      | inl me ↦ rw me (moment-wants works s (answer_to s c.node.stored a) (neighbours s) c)
-      | inr other ↦ rw other refl
-    ]
+moment-gives_note : (works : Bool) (s : Setting) (note : Option NoteBody) (c : Call) → (state_of s (gives_note works s note c).node).moment ≡ (state_of s c.node).moment
+moment-gives_note works s None c = refl
+moment-gives_note works s (Some note) c = moment-wants works s (Note note) (neighbours s) c
 
 moment-judged : (works : Bool) (s : Setting) (f : Option Fault) (r : Record) (c : Call) → (state_of s (judged works s f r c).node).moment ≡ (state_of s c.node).moment
-moment-judged works s (Some f) r c = refl
-moment-judged works s None r c = let c0 : Call = tells s (told.Took r.body None) c in moment-answers works s r.body (takes s r c0) ∙ moment-takes s r c0
+moment-judged works s f r c = moment-gives_note works s (asked_with s c.node f r.body r) (settles s f r c) ∙ moment-settles s f r c
 
 pub moment-handles : (works : Bool) (s : Setting) (c : Call) (r : Record) → (state_of s (handles works s c r).node).moment ≡ (state_of s c.node).moment
 unfolding handles
@@ -266,7 +260,7 @@ moment-handles works s c r = moment-judged works s (refusal s c.node r) r c
 
 -- ---- records one after another
 
--- The verdict on each record, and behind it what its answer reports.
+-- The verdict on each record, and behind it what the note reports that it asks.
 abbrev pub events_on : Setting → Node → List Record → List whats.What
 events_on s n [] = []
 events_on s n (r ∷ records) = (verdict_on s n r ∷ asked true s n.stored (asked_by s n r)) ++ events_on s (when_handled s n r) records
@@ -287,12 +281,12 @@ that-all test s (r ∷ records) c over =
 
 -- ---- verdicts among these
 
-took-asked : (works : Bool) (s : Setting) (moment : ℕ) (kept : Stored) (o : Option AccBody) → picked is_took moment (asked works s kept o) ≡ []
+took-asked : (works : Bool) (s : Setting) (moment : ℕ) (kept : Stored) (o : Option NoteBody) → picked is_took moment (asked works s kept o) ≡ []
 took-asked works s moment kept None = refl
-took-asked works s moment kept (Some a) =
-    picked-none is_took moment (wanted works s kept (answer_to s kept a))
-    (cond_both (eqb kept.next s.indexes) (told.Exhausted kept.next) (cond works (told.Spent kept.next (answer_to s kept a)) told.Stopped) (λ w. is_took w ≡ false) (λ up. refl)
-    (λ left. cond_both works (told.Spent kept.next (answer_to s kept a)) told.Stopped (λ w. is_took w ≡ false) (λ yes. refl) (λ no. refl)))
+took-asked works s moment kept (Some note) =
+    picked-none is_took moment (wanted works s kept (Note note))
+    (cond_both (eqb kept.next s.indexes) (told.Exhausted kept.next) (cond works (told.Spent kept.next (Note note)) told.Stopped) (λ w. is_took w ≡ false) (λ up. refl)
+    (λ left. cond_both works (told.Spent kept.next (Note note)) told.Stopped (λ w. is_took w ≡ false) (λ yes. refl) (λ no. refl)))
 
 took-first : (works : Bool) (s : Setting) (moment : ℕ) (n : Node) (r : Record) → picked is_took moment (verdict_on s n r ∷ asked works s n.stored (asked_by s n r)) ≡ all_at moment (verdict_on s n r ∷ [])
 took-first works s moment n r =
@@ -343,10 +337,10 @@ until-told s n records r =
 
 -- ---- answers among these
 
-sign-asked : (s : Setting) (moment : ℕ) (n : Node) (o : Option AccBody) → picked is_of_signing moment (asked true s n.stored o) ≡ all_at moment (answered_with s n o)
+sign-asked : (s : Setting) (moment : ℕ) (n : Node) (o : Option NoteBody) → picked is_of_signing moment (asked true s n.stored o) ≡ all_at moment (answered_with s n o)
 sign-asked s moment n None = refl
-sign-asked s moment n (Some a) =
-    cond_both (eqb n.stored.next s.indexes) (told.Exhausted n.stored.next) (told.Spent n.stored.next (answer_to s n.stored a)) (λ w. picked is_of_signing moment (w ∷ []) ≡ all_at moment (w ∷ []))
+sign-asked s moment n (Some note) =
+    cond_both (eqb n.stored.next s.indexes) (told.Exhausted n.stored.next) (told.Spent n.stored.next (Note note)) (λ w. picked is_of_signing moment (w ∷ []) ≡ all_at moment (w ∷ []))
     (λ up. refl) (λ left. refl)
 
 sign-events : (s : Setting) (moment : ℕ) (n : Node) (records : List Record) → picked is_of_signing moment (events_on s n records) ≡ all_at moment (answers_told s n records)
@@ -358,10 +352,10 @@ sign-events s moment n (r ∷ records) =
     ∙ ap (λ xs. all_at moment (answered_with s n (asked_by s n r)) ++ xs) (sign-events s moment later records)
     ∙ sym (map-append _ (answered_with s n (asked_by s n r)) (answers_told s later records))
 
-bad-asked : (s : Setting) (moment : ℕ) (kept : Stored) (o : Option AccBody) → picked is_bad_form moment (asked true s kept o) ≡ []
+bad-asked : (s : Setting) (moment : ℕ) (kept : Stored) (o : Option NoteBody) → picked is_bad_form moment (asked true s kept o) ≡ []
 bad-asked s moment kept None = refl
-bad-asked s moment kept (Some a) =
-    cond_both (eqb kept.next s.indexes) (told.Exhausted kept.next) (told.Spent kept.next (answer_to s kept a)) (λ w. picked is_bad_form moment (w ∷ []) ≡ []) (λ up. refl) (λ left. refl)
+bad-asked s moment kept (Some note) =
+    cond_both (eqb kept.next s.indexes) (told.Exhausted kept.next) (told.Spent kept.next (Note note)) (λ w. picked is_bad_form moment (w ∷ []) ≡ []) (λ up. refl) (λ left. refl)
 
 bad-events : (s : Setting) (moment : ℕ) (n : Node) (records : List Record) → picked is_bad_form moment (events_on s n records) ≡ []
 bad-events s moment n [] = refl
@@ -402,9 +396,9 @@ none-told test s (kinds.Summary from flag theirs) n of =
     let c : Call = begun n in
     let c1 : Call = tells s (told.Summary from theirs.page flag) c in
     let h1 : told_that test c1 ≡ [] = quiet test s (told.Summary from theirs.page flag) c (of.summary from theirs.page flag) in
-    let c2 : Call = gives s from (lacking n theirs) c1 in
+    let c2 : Call = gives s from (lacking n from theirs) c1 in
     cond_both (is_other s n from) (replies s from flag theirs.page c2) c1 (λ x. told_that test x ≡ [])
-    (λ yes. that-replies test s from flag theirs.page c2 of.over ∙ that-gives test s from (lacking n theirs) c1 of.over ∙ h1)
+    (λ yes. that-replies test s from flag theirs.page c2 of.over ∙ that-gives test s from (lacking n from theirs) c1 of.over ∙ h1)
     (λ no. h1)
 none-told test s (kinds.Records from records) n of = refl
 
@@ -496,30 +490,28 @@ sent-wants s body addressees c =
     ]
 
 -- by what the store keeps, and the node afterwards
-abbrev out_by : Setting → Stored → Node → Option AccBody → List (ℕ × List ℕ)
+abbrev out_by : Setting → Stored → Node → Option NoteBody → List (ℕ × List ℕ)
 out_by s kept later None = []
-out_by s kept later (Some a) = cond (eqb kept.next s.indexes) [] (to_each (neighbours s (state_of s later)) (kinds.Records s.me (own_record_by s kept (answer_to s kept a) ∷ [])))
+out_by s kept later (Some note) = cond (eqb kept.next s.indexes) [] (to_each (neighbours s (state_of s later)) (kinds.Records s.me (own_record_by s kept (Note note) ∷ [])))
 
-sent-answers : (s : Setting) (b : Body) (c : Call) → (answers true s b c).sent ≡ c.sent ++ out_by s c.node.stored (answers true s b c).node (accusation_to_answer s None b)
-sent-answers s (Certificate x) c = sym (nil-right c.sent)
-sent-answers s (Note x) c = sym (nil-right c.sent)
-sent-answers s (Accusation a) c =
-    elim (cases_Bool (eqb a.accused s.me)) [
-      | inl me ↦ rw me (sent-wants s (answer_to s c.node.stored a) (neighbours s) c)
-      | inr other ↦ rw other (sym (nil-right c.sent))
-    ]
+sent-gives_note : (s : Setting) (note : Option NoteBody) (c : Call) → (gives_note true s note c).sent ≡ c.sent ++ out_by s c.node.stored (gives_note true s note c).node note
+sent-gives_note s None c = sym (nil-right c.sent)
+sent-gives_note s (Some note) c = sent-wants s (Note note) (neighbours s) c
 
-sent-judged : (s : Setting) (f : Option Fault) (r : Record) (c : Call) → (judged true s f r c).sent ≡ c.sent ++ out_by s c.node.stored (judged true s f r c).node (accusation_to_answer s f r.body)
-sent-judged s (Some f) r c = sym (nil-right c.sent)
-sent-judged s None r c =
-    let c0 : Call = tells s (told.Took r.body None) c in
-    let c1 : Call = takes s r c0 in
-    let o : Option AccBody = accusation_to_answer s None r.body in
-    sent-answers s r.body c1 ∙ ap (λ xs. xs ++ out_by s c1.node.stored (answers true s r.body c1).node o) (sent-takes s r c0) ∙ ap (λ k. c.sent ++ out_by s k (answers true s r.body c1).node o) (stored-takes s r c0)
+sent-settles : (s : Setting) (f : Option Fault) (r : Record) (c : Call) → (settles s f r c).sent ≡ c.sent
+sent-settles s (Some f) r c = refl
+sent-settles s None r c = sent-takes s r (tells s (told.Took r.body None) c)
 
-out-is : (s : Setting) (n later : Node) (o : Option AccBody) → out_by s n.stored later o ≡ answer_sent s n later o
+sent-judged : (s : Setting) (f : Option Fault) (r : Record) (c : Call) → (judged true s f r c).sent ≡ c.sent ++ out_by s c.node.stored (judged true s f r c).node (asked_with s c.node f r.body r)
+sent-judged s f r c =
+    let note : Option NoteBody = asked_with s c.node f r.body r in
+    let c1 : Call = settles s f r c in
+    let later : Node = (gives_note true s note c1).node in
+    sent-gives_note s note c1 ∙ ap (λ xs. xs ++ out_by s c1.node.stored later note) (sent-settles s f r c) ∙ ap (λ k. c.sent ++ out_by s k later note) (stored-settles s f r c)
+
+out-is : (s : Setting) (n later : Node) (o : Option NoteBody) → out_by s n.stored later o ≡ answer_sent s n later o
 out-is s n later None = refl
-out-is s n later (Some a) = refl
+out-is s n later (Some note) = refl
 
 pub sent-handles : (s : Setting) (c : Call) (r : Record) → (handles true s c r).sent ≡ c.sent ++ answer_sent s c.node (when_handled s c.node r) (asked_by s c.node r)
 unfolding handles
@@ -547,10 +539,10 @@ all_at-append moment xs ys = map-append (λ (what : whats.What). record { moment
 pub apart-over : IsOver is_apart
 apart-over = over-by is_apart (λ m. refl) (λ m. refl) (λ a. refl) (λ a. refl) (λ place to bytes. refl)
 
-apart-asked : (s : Setting) (moment : ℕ) (n : Node) (o : Option AccBody) → picked is_apart moment (asked true s n.stored o) ≡ all_at moment (answered_with s n o)
+apart-asked : (s : Setting) (moment : ℕ) (n : Node) (o : Option NoteBody) → picked is_apart moment (asked true s n.stored o) ≡ all_at moment (answered_with s n o)
 apart-asked s moment n None = refl
-apart-asked s moment n (Some a) =
-    cond_both (eqb n.stored.next s.indexes) (told.Exhausted n.stored.next) (told.Spent n.stored.next (answer_to s n.stored a)) (λ w. picked is_apart moment (w ∷ []) ≡ all_at moment (w ∷ []))
+apart-asked s moment n (Some note) =
+    cond_both (eqb n.stored.next s.indexes) (told.Exhausted n.stored.next) (told.Spent n.stored.next (Note note)) (λ w. picked is_apart moment (w ∷ []) ≡ all_at moment (w ∷ []))
     (λ up. refl) (λ left. refl)
 
 apart-events : (s : Setting) (moment : ℕ) (n : Node) (records : List Record) → picked is_apart moment (events_on s n records) ≡ all_at moment (records_told s n records)
@@ -587,29 +579,18 @@ record EndsLike (c d : Call) : Type 0 where
   over : d.ended ≡ true
   sent : d.sent ≡ c.sent
 
-ends-answers : (s : Setting) (b : Body) (c : Call) (a : AccBody) → accusation_to_answer s None b ≡ Some a → is_used_up s c.node ≡ false → EndsLike c (answers false s b c)
-ends-answers s (Certificate x) c a h left = cc
-ends-answers s (Note x) c a h left = cc
-ends-answers s (Accusation x) c a h left =
-    elim (cases_Bool (eqb x.accused s.me)) [
-      | inl me ↦ rw (me, wants-failing s (answer_to s c.node.stored x) (neighbours s) c left) (record { over = refl; sent = refl })
-      | inr other ↦ absurd (none-some (sym (ap (λ (b : Bool). cond b (Some x) None) other) ∙ h))
-    ]
-  where
-    none-some : None ≡ Some a → ⊥
-    none-some e = cc
+ends-gives_note : (s : Setting) (note : NoteBody) (c : Call) → is_used_up s c.node ≡ false → EndsLike c (gives_note false s (Some note) c)
+ends-gives_note s note c left = rw (wants-failing s (Note note) (neighbours s) c left) (record { over = refl; sent = refl })
 
-ends-judged : (s : Setting) (f : Option Fault) (r : Record) (c : Call) (a : AccBody) → accusation_to_answer s f r.body ≡ Some a → is_used_up s c.node ≡ false → EndsLike c (judged false s f r c)
-ends-judged s (Some f) r c a h left = cc
-ends-judged s None r c a h left =
-    let c0 : Call = tells s (told.Took r.body None) c in
-    let c1 : Call = takes s r c0 in
-    let e = ends-answers s r.body c1 a h (ap (λ (k : Stored). eqb k.next s.indexes) (stored-takes s r c0) ∙ left) in
-    record { over = e.over; sent = e.sent ∙ sent-takes s r c0 }
+ends-judged : (s : Setting) (f : Option Fault) (r : Record) (c : Call) (note : NoteBody) → asked_with s c.node f r.body r ≡ Some note → is_used_up s c.node ≡ false → EndsLike c (judged false s f r c)
+ends-judged s f r c note h left =
+    let c1 : Call = settles s f r c in
+    let e = ends-gives_note s note c1 (ap (λ (k : Stored). eqb k.next s.indexes) (stored-settles s f r c) ∙ left) in
+    subst (λ o. EndsLike c (gives_note false s o c1)) (sym h) (record { over = e.over; sent = e.sent ∙ sent-settles s f r c })
 
 ends-handles : (s : Setting) (c : Call) (r : Record) → WantsAnswer s c.node r → EndsLike c (handles false s c r)
 unfolding handles
-ends-handles s c r w = ends-judged s (refusal s c.node r) r c w.accusation w.asked w.left
+ends-handles s c r w = ends-judged s (refusal s c.node r) r c w.note w.asked w.left
 
 -- what is reported then
 failing-asked : (s : Setting) (n : Node) (r : Record) → WantsAnswer s n r → asked false s n.stored (asked_by s n r) ≡ told.Stopped ∷ []
@@ -640,12 +621,12 @@ delivery-ends s n records r wanted_later =
 
 -- ---- what is spent in deliveries
 
-in-answered : (s : Setting) (n : Node) (o : Option AccBody) (index : ℕ) (a : AccBody) → In (answered_with s n o) (told.Spent index (Accusation a)) → ⊥
+in-answered : (s : Setting) (n : Node) (o : Option NoteBody) (index : ℕ) (a : AccBody) → In (answered_with s n o) (told.Spent index (Accusation a)) → ⊥
 in-answered s n None index a i = i
 in-answered s n (Some x) index a i =
     elim i [ inl e ↦ by_case (eqb n.stored.next s.indexes) e | inr none ↦ none ]
   where
-    by_case : (b : Bool) → cond b (told.Exhausted n.stored.next) (told.Spent n.stored.next (answer_to s n.stored x)) ≡ told.Spent index (Accusation a) → ⊥
+    by_case : (b : Bool) → cond b (told.Exhausted n.stored.next) (told.Spent n.stored.next (Note x)) ≡ told.Spent index (Accusation a) → ⊥
     by_case true e = cc
     by_case false e = cc
 

@@ -255,8 +255,8 @@ matches-accused held kept a since r is free m =
 
 -- ---- a record that is no accusation takes no accusation's place
 
-matches-other : (r : Record) (held : Holding) (kept : List (AccBody × ℕ)) → ((a : AccBody) → with_record r held (key_of_accusation a) ≡ held (key_of_accusation a)) → Matches held kept → Matches (with_record r held) kept
-matches-other r held kept same m =
+pub matches-same : (held later : Holding) (kept : List (AccBody × ℕ)) → ((a : AccBody) → later (key_of_accusation a) ≡ held (key_of_accusation a)) → Matches held kept → Matches later kept
+matches-same held later kept same m =
     record {
       kept_is = λ a h. m.kept_is a (h.0, (sym (same a) ∙ h.1.0, h.1.1));
       held_is = λ a h. let before = m.held_is a h in (before.0, (same a ∙ before.1.0, before.1.1));
@@ -264,7 +264,7 @@ matches-other r held kept same m =
     }
 
 pub matches-certificate : (r : Record) (x : CertBody) (held : Holding) (kept : List (AccBody × ℕ)) → r.body ≡ Certificate x → Matches held kept → Matches (with_record r held) kept
-matches-certificate r x held kept is m = matches-other r held kept (λ a. ap (λ b. cond (eq_by_cmp key_cmp (key_of_accusation a) (key_of b)) (Some r) (held (key_of_accusation a))) is) m
+matches-certificate r x held kept is m = matches-same held (with_record r held) kept (λ a. ap (λ b. cond (eq_by_cmp key_cmp (key_of_accusation a) (key_of b)) (Some r) (held (key_of_accusation a))) is) m
 
 pub matches-note : (r : Record) (x : NoteBody) (held : Holding) (kept : List (AccBody × ℕ)) → r.body ≡ Note x → Matches held kept → Matches (with_record r held) kept
-matches-note r x held kept is m = matches-other r held kept (λ a. ap (λ b. cond (eq_by_cmp key_cmp (key_of_accusation a) (key_of b)) (Some r) (held (key_of_accusation a))) is) m
+matches-note r x held kept is m = matches-same held (with_record r held) kept (λ a. ap (λ b. cond (eq_by_cmp key_cmp (key_of_accusation a) (key_of b)) (Some r) (held (key_of_accusation a))) is) m

@@ -1,13 +1,17 @@
 -- Throughout its life a node holds just the accusations that it keeps.
-use Rattle.std.proofs.Common.{◌≡◌, ℕ, true, eqb, inl, inr, List, [], ◌∷◌, Option, Some, None, refl, ap, sym, ◌∙◌, subst, eq-eqb}
+use Rattle.std.proofs.Common.{◌≡◌, ℕ, true, cond, inl, inr, List, [], ◌∷◌, Option, Some, None, refl, ap, sym, ◌∙◌, subst, eq-eqb}
 use Rattle.std.specs.Prelude.{◌↔◌, Result, Ok, Err}
 use Rattle.std.specs.List.{AllByRecursion}
+use Rattle.std.specs.Ordering.{eq_by_cmp}
 use Rattle.std.proofs.lemmas.Bool.{cond_both, eqb-true, and_parts, and_from}
 use Rattle.ff_ids.specs.declared.AccBody.{AccBody}
+use Rattle.ff_ids.specs.declared.NoteBody.{NoteBody}
+use Rattle.ff_ids.specs.declared.summary.RecordKey.{RecordKey}
+use Rattle.ff_ids.specs.Heals.{Heal}
 use Rattle.ff_ids.specs.declared.Fault.{Fault}
 use Rattle.ff_ids.specs.Views.{State}
 use Rattle.ff_ids.specs.Faults.{accusation_fault, same_accusation, is_kept}
-use Rattle.ff_ids.specs.Steps.{Ticks as Passes, Stepped, step}
+use Rattle.ff_ids.specs.Steps.{Ticks as Passes, Report, Stepped, step}
 use Rattle.life_laws.proofs.Lists.{In, some_passes, any_from_In}
 use Rattle.life_laws.proofs.StepLemmas.{AllStand}
 use Rattle.detector.specs.Watching.{is_watched}
@@ -15,18 +19,19 @@ use Rattle.detector.specs.Silence.{History, ponged}
 use Rattle.records.specs.declared.Body.{Body}
 use Rattle.records.specs.declared.Body.TheVariants.{Certificate, Note, Accusation}
 use Rattle.records.specs.declared.Record.{Record}
+use Rattle.record_set.specs.Held.{key_cmp, key_of}
 use Rattle.epoch_store.specs.declared.Stored.{Stored}
 use Rattle.datagram.specs.declared.Datagram.{Datagram}
 use Rattle.datagram.specs.declared.Datagram.TheVariants as kinds
 use Rattle.datagram.specs.Grammar.{read_of}
 use Rattle.journal.specs.declared.event.What.TheVariants as told
 use Rattle.validate.specs.Table.{signature_fault}
-use Rattle.node_rules.specs.Nodes.{Setting, Node, Holding, state_of, event_of, with_record, without_ended, public_key_of, neighbours, neighbours_and}
+use Rattle.node_rules.specs.Nodes.{Setting, Node, Holding, state_of, event_of, with_record, without_ended, retires, without_removal, key_of_accusation, public_key_of, neighbours, neighbours_and}
 use Rattle.node_rules.specs.Pages.{partner}
 use Rattle.node_rules.specs.Refusals.{refusal, refusal_of}
-use Rattle.node_rules.specs.Calls.{Call, begun, tells, lives, takes, spends, signs, wants, own_record}
-use Rattle.node_rules.specs.Deliveries.{answer_to, answers, judged, handles, handles_all, hears, delivered}
-use Rattle.node_rules.specs.Ticking.{accusation_on, ring_for, has_accused, wants_accusation, accuses, accuses_all, is_due, silent_in, pings_in, probes_after, pings_all, round_of, passed, probed_at, due_tick, silent_at, ticked}
+use Rattle.node_rules.specs.Calls.{Call, begun, tells, lives, takes, spends, signs, own_record}
+use Rattle.node_rules.specs.Deliveries.{asked_with, gives_note, settles, judged, handles, handles_all, hears, delivered}
+use Rattle.node_rules.specs.Ticking.{accusation_on, ring_for, has_accused, wants_accusation, accuses, accuses_all, spreads, is_due, silent_in, pings_in, probes_after, pings_all, round_of, passed, probed_at, due_tick, silent_at, ticked}
 use Rattle.node_rules.specs.Starting.{blank, opened, started, first_note}
 use Rattle.node_rules.specs.Leaving.{leaving, leaves, left}
 use Rattle.node_rules.specs.Lives.{Input, Delivers, Ticks, call_of, after_calls, Leaves}
@@ -38,8 +43,10 @@ use Rattle.node_rules.proofs.Accusations.{lively, own_accusation, may_accuse, on
 use Rattle.node_rules.proofs.Exchanges.{node-wants}
 use Rattle.node_rules.proofs.Upholding.{some_is, none_some}
 use Rattle.node_rules.proofs.Correctness.{Certifies, takes_all}
-use Rattle.node_rules.proofs.Walks.{exchanged-keeps, pinged-keeps, pings-keep, summary-keeps}
-use Rattle.node_rules.proofs.KeptHeld.{Matches, matches-joins, matches-notes, matches-ticks, alone, matches-accused, matches-certificate, matches-note}
+use Rattle.node_rules.proofs.Retiring.{retires-plain}
+use Rattle.node_rules.proofs.Growth.{removal-plain}
+use Rattle.node_rules.proofs.Walks.{exchanged-keeps, pinged-keeps, spreads-keep, pings-keep, summary-keeps}
+use Rattle.node_rules.proofs.KeptHeld.{Matches, matches-same, matches-joins, matches-notes, matches-ticks, alone, matches-accused, matches-certificate, matches-note}
 
 -- It holds the accusations that it keeps, and no others.
 abbrev Agrees : Setting → Node → Type 0
@@ -60,16 +67,33 @@ agrees-body s r (Note x) st held is may stand m = matches-note r x _ _ is (match
 agrees-body s r (Accusation a) st held is may stand m =
     subst (λ (y : Stepped). Matches (with_record r (without_ended y.report held)) y.state.kept) (sym (step-accused s.group st a may)) (matches-accused held st.kept a st.moment r is (alone s.group st a may stand) m)
 
-held-taken : (s : Setting) (r : Record) (c : Call) → (takes s r c).node.held ≡ with_record r (without_ended (step s.group (state_of s c.node) (event_of s r.body)).report c.node.held)
+-- What becomes of removals leaves the accusations that are kept.
+matches-retired : (heal : Option Heal) (rep : Report) (held : Holding) (kept : List (AccBody × ℕ)) → Matches (without_ended rep held) kept
+    → Matches (without_ended rep (retires heal rep held)) kept
+matches-retired heal rep held kept m =
+    matches-same (without_ended rep held) (without_ended rep (retires heal rep held)) kept (λ a. retires-plain heal rep held (key_of_accusation a) tt) m
+
+matches-unremoved : (r : Record) (b : Body) (heal : Option Heal) (rep : Report) (held : Holding) (kept : List (AccBody × ℕ))
+    → Matches (with_record r (without_ended rep held)) kept → Matches (with_record r (without_removal b (without_ended rep (retires heal rep held)))) kept
+matches-unremoved r b heal rep held kept m =
+    let left : Holding = without_ended rep (retires heal rep held) in
+    matches-same (with_record r (without_ended rep held)) (with_record r (without_removal b left)) kept
+    (λ a. ap (λ o. cond (eq_by_cmp key_cmp (key_of_accusation a) (key_of r.body)) (Some r) o)
+    (removal-plain b left (key_of_accusation a) tt ∙ retires-plain heal rep held (key_of_accusation a) tt)) m
+
+held-taken : (s : Setting) (r : Record) (c : Call) → let rep = (step s.group (state_of s c.node) (event_of s r.body)).report in
+    (takes s r c).node.held ≡ with_record r (without_removal r.body (without_ended rep (retires s.heal rep c.node.held)))
 unfolding takes lives
 held-taken s r c = refl
 
 agrees-takes : (s : Setting) (r : Record) (c : Call) → MayKeep s (state_of s c.node) r.body → Agrees s c.node → Agrees s (takes s r c).node
 agrees-takes s r c may m =
     let st : State = state_of s c.node in
-    let held : Holding = with_record r (without_ended (step s.group st (event_of s r.body)).report c.node.held) in
+    let next : Stepped = step s.group st (event_of s r.body) in
+    let held : Holding = with_record r (without_removal r.body (without_ended next.report (retires s.heal next.report c.node.held))) in
+    let put : Matches (with_record r (without_ended next.report c.node.held)) next.state.kept = agrees-body s r r.body st c.node.held refl may (lively s c.node).upheld m in
     subst (λ h. Matches h (state_of s (takes s r c).node).kept) (sym (held-taken s r c))
-    (subst (λ (x : State). Matches held x.kept) (sym (state-takes s r c)) (agrees-body s r r.body st c.node.held refl may (lively s c.node).upheld m))
+    (subst (λ (x : State). Matches held x.kept) (sym (state-takes s r c)) (matches-unremoved r r.body s.heal next.report c.node.held next.state.kept put))
 
 may-keep : (s : Setting) (n : Node) (r : Record) (b : Body) → r.body ≡ b → refusal s n r ≡ None → MayKeep s (state_of s n) b
 unfolding refusal
@@ -90,35 +114,34 @@ agrees-signs : (s : Setting) (b : Body) (c : Call) → MayKeep s (state_of s c.n
 unfolding signs
 agrees-signs s b c may m = agrees-takes s (own_record s c.node b) (spends s b c) (may-spent s b c may) (agrees-spends s b c m)
 
-agrees-probed : (s : Setting) (n : Node) (p : History) → Agrees s n → Agrees s (record n { probes = p })
+agrees-again : (s : Setting) (n : Node) (p : History) (news : List RecordKey) (since : ℕ) → Agrees s n → Agrees s (record n { probes = p; news = news; since = since })
 unfolding state_of
-agrees-probed s n p m = m
+agrees-again s n p news since m = m
 
-held-passed : (s : Setting) (c : Call) → (lives s Passes c).node.held ≡ without_ended (step s.group (state_of s c.node) Passes).report c.node.held
+held-passed : (s : Setting) (c : Call) → let rep = (step s.group (state_of s c.node) Passes).report in (lives s Passes c).node.held ≡ without_ended rep (retires s.heal rep c.node.held)
 unfolding lives
 held-passed s c = refl
 
 agrees-passes : (s : Setting) (c : Call) → Agrees s c.node → Agrees s (lives s Passes c).node
 agrees-passes s c m =
     let st : State = state_of s c.node in
-    let held : Holding = without_ended (step s.group st Passes).report c.node.held in
+    let rep : Report = (step s.group st Passes).report in
+    let held : Holding = without_ended rep (retires s.heal rep c.node.held) in
     subst (λ h. Matches h (state_of s (lives s Passes c).node).kept) (sym (held-passed s c))
-    (subst (λ (x : State). Matches held x.kept) (sym (state_of-lives s Passes c)) (matches-ticks s.group st c.node.held m))
+    (subst (λ (x : State). Matches held x.kept) (sym (state_of-lives s Passes c)) (matches-retired s.heal rep c.node.held (step s.group st Passes).state.kept (matches-ticks s.group st c.node.held m)))
 
 -- ---- deliveries
 
-agrees-answers : (s : Setting) (b : Body) (c : Call) → Agrees s c.node → Agrees s (answers true s b c).node
-agrees-answers s (Certificate x) c m = m
-agrees-answers s (Note x) c m = m
-agrees-answers s (Accusation a) c m =
-    let b : Body = answer_to s c.node.stored a in
-    cond_both (eqb a.accused s.me) (wants true s b (neighbours s) c) c (λ x. Agrees s x.node) (λ yes. node-wants true s b (neighbours s) c (Agrees s) m (λ left. agrees-signs s b c tt m)) (λ no. m)
+agrees-gives : (s : Setting) (note : Option NoteBody) (c : Call) → Agrees s c.node → Agrees s (gives_note true s note c).node
+agrees-gives s None c m = m
+agrees-gives s (Some note) c m = node-wants true s (Note note) (neighbours s) c (Agrees s) m (λ left. agrees-signs s (Note note) c tt m)
+
+agrees-settles : (s : Setting) (f : Option Fault) (r : Record) (c : Call) → refusal s c.node r ≡ f → Agrees s c.node → Agrees s (settles s f r c).node
+agrees-settles s (Some fault) r c e m = m
+agrees-settles s None r c e m = agrees-takes s r (tells s (told.Took r.body None) c) (may-keep s c.node r r.body refl e) m
 
 agrees-judged : (s : Setting) (f : Option Fault) (r : Record) (c : Call) → refusal s c.node r ≡ f → Agrees s c.node → Agrees s (judged true s f r c).node
-agrees-judged s (Some fault) r c e m = m
-agrees-judged s None r c e m =
-    let c1 : Call = tells s (told.Took r.body None) c in
-    agrees-answers s r.body (takes s r c1) (agrees-takes s r c1 (may-keep s c.node r r.body refl e) m)
+agrees-judged s f r c e m = agrees-gives s (asked_with s c.node f r.body r) (settles s f r c) (agrees-settles s f r c e m)
 
 agrees-handles : (s : Setting) (c : Call) (r : Record) → Agrees s c.node → Agrees s (handles true s c r).node
 unfolding handles
@@ -131,7 +154,7 @@ agrees-handles_all s (r ∷ records) c m = agrees-handles_all s records (handles
 agrees-hears : (s : Setting) (d : Result Datagram ℕ) (c : Call) → Agrees s c.node → Agrees s (hears s d c).node
 agrees-hears s (Err place) c m = m
 agrees-hears s (Ok (kinds.Ping from nonce)) c m = pinged-keeps s (Agrees s) from nonce c m
-agrees-hears s (Ok (kinds.Pong from nonce)) c m = agrees-probed s c.node (ponged c.node.probes from nonce) m
+agrees-hears s (Ok (kinds.Pong from nonce)) c m = agrees-again s c.node (ponged c.node.probes from nonce) c.node.news c.node.since m
 agrees-hears s (Ok (kinds.Summary from flag theirs)) c m = exchanged-keeps s (Agrees s) from flag theirs c m
 agrees-hears s (Ok (kinds.Records from records)) c m = agrees-handles_all s records c m
 
@@ -170,18 +193,29 @@ agrees-accuses_all s (m ∷ silent) c watched h =
     let k = only_kept-accuses s c m in
     agrees-accuses_all s silent (accuses true s c m) (λ x i. ap (λ (st : State). is_watched s.group.t st s.me x) k.1 ∙ watched x (inr i)) (agrees-accuses s c m (watched m (inl refl)) h)
 
+state-news : (s : Setting) (n : Node) → state_of s (record n { news = [] }) ≡ state_of s n
+unfolding state_of
+state-news s n = refl
+
+state-spreads : (s : Setting) (c : Call) → state_of s (spreads s c).node ≡ state_of s c.node
+state-spreads s c = spreads-keep s (λ n. state_of s n ≡ state_of s c.node) (λ n e. state-news s n ∙ e) c refl
+
 agrees-due : (s : Setting) (silent : List ℕ) (sent : List (ℕ × ℕ)) (round : ℕ) (c : Call) → ((m : ℕ) → In silent m → is_watched s.group.t (state_of s c.node) s.me m ≡ true) → Agrees s c.node → Agrees s (due_tick s silent sent round c).node
 unfolding due_tick
 agrees-due s silent sent round c watched h =
-    let c1 : Call = accuses_all s silent c in
+    let c0 : Call = spreads s c in
+    let c1 : Call = accuses_all s silent c0 in
     let c2 : Call = pings_all s sent c1 in
-    summary-keeps s (Agrees s) round (partner s c2.node round) c2 (pings-keep s (Agrees s) sent c1 (agrees-accuses_all s silent c watched h))
+    let h0 : Agrees s c0.node = spreads-keep s (Agrees s) (λ n m. agrees-again s n n.probes [] n.since m) c h in
+    let watched0 : (m : ℕ) → In silent m → is_watched s.group.t (state_of s c0.node) s.me m ≡ true = λ m i. ap (λ (st : State). is_watched s.group.t st s.me m) (state-spreads s c) ∙ watched m i in
+    summary-keeps s (Agrees s) round (partner s c2.node round) c2 (pings-keep s (Agrees s) sent c1 (agrees-accuses_all s silent c0 watched0 h0))
 
 agrees-probed_at : (s : Setting) (n : Node) → Agrees s n → Agrees s (probed_at s n).node
 unfolding probed_at passed
 agrees-probed_at s n m =
     let c : Call = lives s Passes (begun n) in
-    agrees-probed s c.node (probes_after s c.node (state_of s c.node)).probes (agrees-passes s (begun n) m)
+    let later : Node = probes_after s c.node (state_of s c.node) in
+    agrees-again s c.node later.probes c.node.news later.since (agrees-passes s (begun n) m)
 
 agrees-ticked : (s : Setting) (n : Node) → Agrees s n → Agrees s (ticked s n).node
 unfolding ticked silent_at

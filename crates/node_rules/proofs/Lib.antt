@@ -1,6 +1,7 @@
 pub mod Rows
 mod Rounds
 pub mod Small
+pub mod Retiring
 pub mod Carrying
 pub mod Keeping
 pub mod Telling
@@ -25,6 +26,7 @@ mod Witnesses
 mod Accusers
 mod KeptHeld
 mod KeptNodes
+mod Removed
 mod Exchanges
 mod WholePages
 mod OneExchange
@@ -35,4 +37,8 @@ mod Addressing
 pub mod ExchangeRows
 mod WideRows
 mod LeavingRows
+mod HealRows
 pub mod SentRecords
+mod Plain
+mod ComingBack
+mod Spans

@@ -33,7 +33,7 @@ sendable l inputs correct ranges bytes =
     let formed : Formed l.setting l.own (node_after l inputs) = formed-life l inputs correct ranges bytes in
     record {
       held = formed.held;
-      given = λ theirs some. lacking-datagram l.setting (node_after l inputs) theirs ranges.me formed.held some;
+      given = λ from theirs some. lacking-datagram l.setting (node_after l inputs) from theirs ranges.me formed.held some;
     }
 
 -- epochs are counted from 1
@@ -66,7 +66,7 @@ meets a b made before between m =
 
 -- Once the records are handled.
 known-handled : (a b : Life) (made before between : List Input) (number : ℕ) → Meet a b made before between → (m : ℕ) → page_of_member m ≡ number
-    → IsKnownAmong m (notes_after a made) (state_of b.setting (handles_all b.setting (all_lacking (node_after a made) (page (node_after b before) number)) (begun (node_after b (before ++ between)))).node).notes
+    → IsKnownAmong m (notes_after a made) (state_of b.setting (handles_all b.setting (all_lacking (node_after a made) b.setting.me (page (node_after b before) number)) (begun (node_after b (before ++ between)))).node).notes
 known-handled a b made before between number meet m of =
     λ note is.
     let s : Setting = b.setting in
@@ -75,20 +75,20 @@ known-handled a b made before between number meet m of =
     let c : Call = begun (node_after b (before ++ between)) in
     let who : note.member ≡ m = (newest-fits (notes_after a made) m note is).1 in
     let there : newest (notes_after a made) note.member ≡ Some note = ap (newest (notes_after a made)) who ∙ is in
-    subst (λ k. HasAtLeast (state_of s (handles_all s (all_lacking n (page earlier number)) c).node).notes k note) who
-    (known-page a.setting s a.own b.own n earlier number c note (meets a b made before between meet) (ap page_of_member who ∙ of) there (noted a made note meet.correct meet.ranges meet.bytes there))
+    subst (λ k. HasAtLeast (state_of s (handles_all s (all_lacking n s.me (page earlier number)) c).node).notes k note) who
+    (known-page a.setting s a.own b.own n earlier s.me number c note (meets a b made before between meet) (ap page_of_member who ∙ of) there (noted a made note meet.correct meet.ranges meet.bytes there))
 
-pub nothing-lacking : (a b : Life) (made before between : List Input) (number : ℕ) → Meet a b made before between → all_lacking (node_after a made) (page (node_after b before) number) ≡ []
+pub nothing-lacking : (a b : Life) (made before between : List Input) (number : ℕ) → Meet a b made before between → all_lacking (node_after a made) b.setting.me (page (node_after b before) number) ≡ []
     → (m : ℕ) → page_of_member m ≡ number → IsKnownAmong m (notes_after a made) (notes_after b (before ++ between))
 nothing-lacking a b made before between number meet none m of =
     let c : Call = begun (node_after b (before ++ between)) in
     subst (λ rs. IsKnownAmong m (notes_after a made) (state_of b.setting (handles_all b.setting rs c).node).notes) none (known-handled a b made before between number meet m of)
 
-delivered-whole : (s other : Setting) (n from : Node) (theirs : Summary) (bytes : List ℕ) → IsDatagram (datagram_bytes (given_to other from theirs)) (given_to other from theirs) → HoldsAllLacking other from theirs bytes
-    → delivered s n bytes ≡ handles_all s (all_lacking from theirs) (begun n)
+delivered-whole : (s other : Setting) (n giver : Node) (from : ℕ) (theirs : Summary) (bytes : List ℕ) → IsDatagram (datagram_bytes (given_to other giver from theirs)) (given_to other giver from theirs) → HoldsAllLacking other giver from theirs bytes
+    → delivered s n bytes ≡ handles_all s (all_lacking giver from theirs) (begun n)
 unfolding delivered
-delivered-whole s other n from theirs bytes is h =
-    ap (λ d. hears s d (begun n)) (read_again bytes (given_to other from theirs) (subst (λ xs. IsDatagram xs (given_to other from theirs)) (sym h.spelled) is)) ∙ ap (λ rs. handles_all s rs (begun n)) h.whole
+delivered-whole s other n giver from theirs bytes is h =
+    ap (λ d. hears s d (begun n)) (read_again bytes (given_to other giver from theirs) (subst (λ xs. IsDatagram xs (given_to other giver from theirs)) (sym h.spelled) is)) ∙ ap (λ rs. handles_all s rs (begun n)) h.whole
 
 no-records : (records : List Record) → length records ≤ 0 → records ≡ []
 no-records [] le = refl
@@ -98,7 +98,7 @@ follows-call : (s : Setting) (n : Node) (i : Input) → Follows s n (call_of s n
 follows-call s n i = keeps-call s (λ c. Follows s n c.node) (following s n) n i (follows-itself s n)
 
 pub one-exchange : (a b : Life) (made before between : List Input) (number : ℕ) (bytes : List ℕ) → Meet a b made before between
-    → HoldsAllLacking a.setting (node_after a made) (page (node_after b before) number) bytes
+    → HoldsAllLacking a.setting (node_after a made) b.setting.me (page (node_after b before) number) bytes
     → (m : ℕ) → page_of_member m ≡ number → IsKnownAmong m (notes_after a made) (notes_after b ((before ++ between) ++ Delivers bytes ∷ []))
 one-exchange a b made before between number bytes meet holds m of =
     let s : Setting = b.setting in
@@ -107,11 +107,11 @@ one-exchange a b made before between number bytes meet holds m of =
     let handed : Node = node_after b (before ++ between) in
     let last : node_after b ((before ++ between) ++ Delivers bytes ∷ []) ≡ (delivered s handed bytes).node = calls-append s (node_after b []) (before ++ between) (Delivers bytes ∷ []) in
     subst (λ (x : Node). IsKnownAmong m (notes_after a made) (state_of s x).notes) (sym last)
-    (elim (cases_lt 0 (length (lacking n theirs))) [
+    (elim (cases_lt 0 (length (lacking n s.me theirs))) [
       | inl some ↦
-          let is = (sendable a made meet.correct meet.ranges meet.bytes).given theirs some in
-          subst (λ (c : Call). IsKnownAmong m (notes_after a made) (state_of s c.node).notes) (sym (delivered-whole s a.setting handed n theirs bytes is holds)) (known-handled a b made before between number meet m of)
+          let is = (sendable a made meet.correct meet.ranges meet.bytes).given s.me theirs some in
+          subst (λ (c : Call). IsKnownAmong m (notes_after a made) (state_of s c.node).notes) (sym (delivered-whole s a.setting handed n s.me theirs bytes is holds)) (known-handled a b made before between number meet m of)
       | inr none ↦
-          let known = nothing-lacking a b made before between number meet (sym holds.whole ∙ no-records (lacking n theirs) none) m of in
+          let known = nothing-lacking a b made before between number meet (sym holds.whole ∙ no-records (lacking n s.me theirs) none) m of in
           λ note is. has-follows m (state_of s handed).notes (state_of s (delivered s handed bytes).node).notes note ((follows-call s handed (Delivers bytes)).notes m) (known note is)
     ])

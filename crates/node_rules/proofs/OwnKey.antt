@@ -7,6 +7,7 @@ use Rattle.std.specs.Ordering.{eq_by_cmp}
 use Rattle.std.proofs.lemmas.Bool.{cases_Bool, eqb-true}
 use Rattle.std.proofs.lemmas.Bool.Decides.{nat_tests}
 use Rattle.ff_ids.specs.declared.AccBody.{AccBody}
+use Rattle.ff_ids.specs.Heals.{Heal}
 use Rattle.ff_ids.specs.declared.summary.RecordKey.TheVariants as keys
 use Rattle.ff_ids.specs.Steps.{Event, Ticks, Report, step}
 use Rattle.records.specs.declared.keys.Key.{Key}
@@ -17,10 +18,10 @@ use Rattle.records.specs.declared.Record.{Record}
 use Rattle.epoch_store.specs.declared.Stored.{Stored}
 use Rattle.datagram.specs.declared.Datagram.{Datagram}
 use Rattle.record_set.specs.Held.{key_cmp}
-use Rattle.node_rules.specs.Nodes.{Setting, Node, Holding, state_of, event_of, with_record, without, without_ended, key_of_accusation, certificate_in, certificate_of, public_key_of}
+use Rattle.node_rules.specs.Nodes.{Setting, Node, Holding, state_of, event_of, with_record, without, without_ended, retires, without_removal, key_of_accusation, certificate_in, certificate_of, public_key_of}
 use Rattle.signer.specs.Signing.{stored_after}
 use Rattle.node_rules.specs.Calls.{Call, begun, lives, takes, spends, signs, sends, own_record, is_used_up}
-use Rattle.node_rules.specs.Deliveries.{answer_to}
+use Rattle.node_rules.specs.Deliveries.{answer_to, returning_note}
 use Rattle.node_rules.specs.Refusals.{refusal, refusal_of}
 use Rattle.detector.specs.Silence.{History}
 use Rattle.node_rules.specs.Starting.{blank, opened, started, first_note}
@@ -29,6 +30,7 @@ use Rattle.node_rules.specs.Lives.{is_certificate_for, Input, call_of, after_cal
 use Rattle.node_rules.specs.Vouching.{IsCertifiedBy}
 use Rattle.node_rules.proofs.OwnNote.{option_or-none, or-second, stored-lives}
 use Rattle.node_rules.proofs.Small.{stored-takes, stored-signs}
+use Rattle.node_rules.proofs.Retiring.{retires-plain}
 use Rattle.node_rules.proofs.Keeping.{Keeps, keeps-call}
 
 -- ---- certificates that stay
@@ -43,8 +45,13 @@ fold-without : (gone : List AccBody) (held : Holding) (m : ℕ) → fold without
 fold-without [] held m = refl
 fold-without (a ∷ gone) held m = fold-without gone (without held (key_of_accusation a)) m
 
-pub ended-certificate : (r : Report) (held : Holding) (m : ℕ) → without_ended r held (keys.Certificate m) ≡ held (keys.Certificate m)
-ended-certificate r held m = fold-without (r.expired ++ r.fell) held m
+pub ended-certificate : (heal : Option Heal) (r : Report) (held : Holding) (m : ℕ) → without_ended r (retires heal r held) (keys.Certificate m) ≡ held (keys.Certificate m)
+ended-certificate heal r held m = retires-plain heal r held (keys.Certificate m) tt ∙ fold-without (r.expired ++ r.fell) held m
+
+pub removal-certificate : (b : Body) (held : Holding) (m : ℕ) → without_removal b held (keys.Certificate m) ≡ held (keys.Certificate m)
+removal-certificate (Certificate c) held m = refl
+removal-certificate (Note n) held m = refl
+removal-certificate (Accusation a) held m = refl
 
 same_number : (a b : ℕ) → eq_by_cmp key_cmp (keys.Certificate a) (keys.Certificate b) ≡ true → a ≡ b
 same_number a b h = grind (arith, nat_tests, h)
@@ -77,18 +84,28 @@ not_kept s n r c k key fine some is who =
     let none : certificate_of n c.member ≡ None = map-none _ (certificate_of n c.member) (option_or-none _ _ fine2).0 in
     none-some (λ x. x.key) (certificate_of n k) key (sym (ap (certificate_of n) who) ∙ none) some
 
-ended-key : (r : Report) (held : Holding) (m : ℕ) → option_map (λ c. c.key) (option_and_then (λ x. certificate_in x.body) (without_ended r held (keys.Certificate m))) ≡ option_map (λ c. c.key) (option_and_then (λ x. certificate_in x.body) (held (keys.Certificate m)))
-ended-key r held m = ap (λ o. option_map (λ c. c.key) (option_and_then (λ x. certificate_in x.body) o)) (ended-certificate r held m)
+abbrev key_held : Holding → ℕ → Option Key
+key_held held m = option_map (λ c. c.key) (option_and_then (λ x. certificate_in x.body) (held (keys.Certificate m)))
+
+ended-key : (heal : Option Heal) (r : Report) (held : Holding) (m : ℕ) → key_held (without_ended r (retires heal r held)) m ≡ key_held held m
+ended-key heal r held m = ap (λ o. option_map (λ c. c.key) (option_and_then (λ x. certificate_in x.body) o)) (ended-certificate heal r held m)
+
+-- before a record is put
+left-key : (heal : Option Heal) (r : Report) (b : Body) (held : Holding) (m : ℕ) → key_held (without_removal b (without_ended r (retires heal r held))) m ≡ key_held held m
+left-key heal r b held m =
+    ap (λ o. option_map (λ c. c.key) (option_and_then (λ x. certificate_in x.body) o)) (removal-certificate b (without_ended r (retires heal r held)) m)
+    ∙ ended-key heal r held m
 
 stay-takes : (s : Setting) (r : Record) (c : Call) → ((x : CertBody) (k : ℕ) (key : Key) → public_key_of c.node k ≡ Some key → r.body ≡ Certificate x → x.member ≡ k → ⊥) → Stay c.node (takes s r c).node
 unfolding takes lives certificate_of
 stay-takes s r c free = λ k key h.
     let rep : Report = (step s.group (state_of s c.node) (event_of s r.body)).report in
-    certificate-with r (without_ended rep c.node.held) r.body k key refl (λ x is who. free x k key h is who) (ended-key rep c.node.held k ∙ h)
+    let left : Holding = without_removal r.body (without_ended rep (retires s.heal rep c.node.held)) in
+    certificate-with r left r.body k key refl (λ x is who. free x k key h is who) (left-key s.heal rep r.body c.node.held k ∙ h)
 
 stay-lives : (s : Setting) (e : Event) (c : Call) → Stay c.node (lives s e c).node
 unfolding lives certificate_of
-stay-lives s e c = λ k key h. ended-key (step s.group (state_of s c.node) e).report c.node.held k ∙ h
+stay-lives s e c = λ k key h. ended-key s.heal (step s.group (state_of s c.node) e).report c.node.held k ∙ h
 
 -- The own key is held, and no index is spent that it hasn't.
 pub record KeepsKey (s : Setting) (own : Key) (n : Node) : Type 0 where
@@ -149,6 +166,14 @@ key-probed : (s : Setting) (own : Key) (n : Node) (p : History) → KeepsKey s o
 unfolding certificate_of
 key-probed s own n p h = record { own_key = h.own_key; within = h.within }
 
+key-spanned : (s : Setting) (own : Key) (n : Node) → KeepsKey s own n → KeepsKey s own (record n { since = n.stored.epoch })
+unfolding certificate_of
+key-spanned s own n h = record { own_key = h.own_key; within = h.within }
+
+key-spread : (s : Setting) (own : Key) (n : Node) → KeepsKey s own n → KeepsKey s own (record n { news = [] })
+unfolding certificate_of
+key-spread s own n h = record { own_key = h.own_key; within = h.within }
+
 keeping-key : (s : Setting) (own : Key) → Keeps s (λ c. KeepsKey s own c.node)
 unfolding IsOwnBody
 keeping-key s own =
@@ -156,12 +181,15 @@ keeping-key s own =
       told = λ what c other h. h;
       sent = λ d c to h. key-sends s own d c to h;
       taken = λ r c fine h. key-takes s own r c fine h;
-      answered = λ r a c fine is me left h. key-signs s own (answer_to s (takes s r c).node.stored a) (takes s r c) refl left (key-takes s own r c fine h);
+      answered = λ r a c fine is me may left h. key-signs s own (answer_to s (takes s r c).node.stored a) (takes s r c) refl left (key-takes s own r c fine h);
+      returned = λ r a c asks may left h. key-signs s own (Note (returning_note s c.node.stored)) c refl left h;
       accused = λ a c by left h. key-signs s own (Accusation a) c by left h;
       departed = λ c left h. key-signs s own (leaving s c.node.stored) c refl left h;
       stopped = λ c h. h;
       passed = λ c h. key-ticks s own c h;
       probed = λ p c h. key-probed s own c.node p h;
+      spanned = λ c h. key-spanned s own c.node h;
+      spread = λ c h. key-spread s own c.node h;
     }
 
 pub key-calls : (s : Setting) (own : Key) (n : Node) (inputs : List Input) → KeepsKey s own n → KeepsKey s own (after_calls s n inputs)
@@ -195,7 +223,8 @@ own-takes : (s : Setting) (own : Key) (r : Record) (c : Call) (x : CertBody) →
 unfolding takes lives certificate_of
 own-takes s own r c x is mine before =
     let rep : Report = (step s.group (state_of s c.node) (event_of s r.body)).report in
-    key-with r (without_ended rep c.node.held) x s.me own is mine (elim before [ inl who ↦ inl who | inr h ↦ inr (ended-key rep c.node.held s.me ∙ h) ])
+    let left : Holding = without_removal r.body (without_ended rep (retires s.heal rep c.node.held)) in
+    key-with r left x s.me own is mine (elim before [ inl who ↦ inl who | inr h ↦ inr (left-key s.heal rep r.body c.node.held s.me ∙ h) ])
 
 kit-keeps-own : (s : Setting) (own : Key) (records : List Record) (c : Call) → AllByRecursion Certifies records → AllByRecursion (IsCertifiedBy s own) records → public_key_of c.node s.me ≡ Some own → public_key_of (takes_all s records c).node s.me ≡ Some own
 kit-keeps-own s own [] c all good h = h
@@ -245,12 +274,15 @@ staying-within s =
       told = λ what c other h. h;
       sent = λ d c to h. within-sends s d c to h;
       taken = λ r c fine h. within-takes s r c h;
-      answered = λ r a c fine is me left h. within-signs s (answer_to s (takes s r c).node.stored a) (takes s r c) left (within-takes s r c h);
+      answered = λ r a c fine is me may left h. within-signs s (answer_to s (takes s r c).node.stored a) (takes s r c) left (within-takes s r c h);
+      returned = λ r a c asks may left h. within-signs s (Note (returning_note s c.node.stored)) c left h;
       accused = λ a c by left h. within-signs s (Accusation a) c left h;
       departed = λ c left h. within-signs s (leaving s c.node.stored) c left h;
       stopped = λ c h. h;
       passed = λ c h. subst (λ k. k.next ≤ s.indexes) (sym (stored-lives s Ticks c)) h;
       probed = λ p c h. h;
+      spanned = λ c h. h;
+      spread = λ c h. h;
     }
 
 within-calls : (s : Setting) (n : Node) (inputs : List Input) → n.stored.next ≤ s.indexes → (after_calls s n inputs).stored.next ≤ s.indexes

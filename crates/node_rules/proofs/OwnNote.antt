@@ -30,7 +30,7 @@ use Rattle.detector.specs.Silence.{History}
 use Rattle.rebuttal.proofs.Answering.{IsAsked}
 use Rattle.rebuttal.specs.Rebuttals.{answering_mask}
 use Rattle.node_rules.specs.Replies.{first_mask}
-use Rattle.node_rules.specs.Deliveries.{answering_note, answer_to}
+use Rattle.node_rules.specs.Deliveries.{answering_note, answer_to, returning_note}
 use Rattle.node_rules.specs.Leaving.{leaving}
 use Rattle.node_rules.specs.Starting.{blank, opened, started}
 use Rattle.node_rules.specs.Lives.{is_certificate_for, stored_note, KeepsOwnNote, Input, call_of, after_calls}
@@ -174,6 +174,13 @@ own-signs_note s mask c h allowed =
 pub own-leaves : (s : Setting) (c : Call) → KeepsOwnNote s c.node → KeepsOwnNote s (signs s (leaving s c.node.stored) c).node
 own-leaves s c h = own-signs_note s 0 c h refl
 
+-- and so is the note by which the node comes back
+own-returns : (s : Setting) (c : Call) → KeepsOwnNote s c.node → KeepsOwnNote s (signs s (Note (returning_note s c.node.stored)) c).node
+own-returns s c h = own-signs_note s c.node.stored.mask.0 c h h.allowed
+
+pub return-fine : (s : Setting) (n : Node) → KeepsOwnNote s n → note_fault s.group.t (state_of s n) (returning_note s n.stored) ≡ None
+return-fine s n h = next_own-fine s n n.stored.mask.0 h h.allowed
+
 -- ---- an accusation against the node, and its answer
 
 some-injective : {T : Type 0} (x y : T) → Some x ≡ Some y → x ≡ y
@@ -218,18 +225,29 @@ with_probes : (s : Setting) (n : Node) (p : History) → KeepsOwnNote s n → Ke
 unfolding state_of
 with_probes s n p h = record { joined = h.joined; own = h.own; allowed = h.allowed }
 
+with_span : (s : Setting) (n : Node) → KeepsOwnNote s n → KeepsOwnNote s (record n { since = n.stored.epoch })
+unfolding state_of
+with_span s n h = record { joined = h.joined; own = h.own; allowed = h.allowed }
+
+without_news : (s : Setting) (n : Node) → KeepsOwnNote s n → KeepsOwnNote s (record n { news = [] })
+unfolding state_of
+without_news s n h = record { joined = h.joined; own = h.own; allowed = h.allowed }
+
 pub keeping : (s : Setting) → 1 ≤ s.group.t → Keeps s (λ c. KeepsOwnNote s c.node)
 keeping s some =
     record {
       told = λ what c other h. h;
       sent = λ d c to h. own-sends s d c to h;
       taken = λ r c fine h. own-takes s r c (event-is_other s c.node r r.body h refl fine) h;
-      answered = λ r a c fine is me left h. own-answers s r a c some fine is me h;
+      answered = λ r a c fine is me may left h. own-answers s r a c some fine is me h;
+      returned = λ r a c asks may left h. own-returns s c h;
       accused = λ a c by left h. own-accuses s a c h;
       departed = λ c left h. own-leaves s c h;
       stopped = λ c h. h;
       passed = λ c h. own-lives s Ticks c tt h;
       probed = λ p c h. with_probes s c.node p h;
+      spanned = λ c h. with_span s c.node h;
+      spread = λ c h. without_news s c.node h;
     }
 
 pub own-call : (s : Setting) (n : Node) (i : Input) → 1 ≤ s.group.t → KeepsOwnNote s n → KeepsOwnNote s (call_of s n i).node

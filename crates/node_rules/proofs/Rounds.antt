@@ -17,7 +17,7 @@ use Rattle.node_rules.specs.Refusals.{refusal}
 use Rattle.node_rules.specs.Pages.{page, partner, page_number, lacking}
 use Rattle.node_rules.specs.Calls.{Call, lives, sends, takes, signs, signs_and_sends, wants}
 use Rattle.node_rules.specs.Deliveries.{handles, delivered}
-use Rattle.node_rules.specs.Ticking.{accuses, passed, probed_at, due_tick, ticked}
+use Rattle.node_rules.specs.Ticking.{accuses, fresh, spreads, passed, probed_at, due_tick, ticked}
 use Rattle.node_rules.specs.Starting.{started}
 use Rattle.node_rules.specs.Outgoing.{at_tick, to_accuse, goes_out, accusing_told}
 use Rattle.detector.specs.Silence.{nonce}
@@ -78,7 +78,7 @@ view_of g m = view (state_of (setting m) (node_in g m))
 
 -- After three rounds each has all in its view, and nothing is on its way.
 views : (view_of gathered 1 ≡ 1 ∷ 2 ∷ 3 ∷ []) × (view_of gathered 2 ≡ 1 ∷ 2 ∷ 3 ∷ []) × (view_of gathered 3 ≡ 1 ∷ 2 ∷ 3 ∷ []) × (gathered.way ≡ [])
-unfolding all_numbers in_view_by started signs signs_and_sends wants takes lives state_of delivered handles refusal sends certificate_of neighbours neighbours_and answering_mask bits_where page partner page_number lacking accuses passed probed_at due_tick ticked read_of whole_of datagram_at head_at items_at content_at records_at counted_at record_at body_at certificate_at note_at accusation_at key_at signature_at head_bytes records_bytes note_bytes accusation_bytes summary_at entries_at entry_at entry_bytes summary_bytes certificate_bytes key_bytes
+unfolding all_numbers in_view_by started signs signs_and_sends wants takes lives state_of delivered handles refusal sends certificate_of neighbours neighbours_and answering_mask bits_where page partner page_number lacking accuses fresh spreads passed probed_at due_tick ticked read_of whole_of datagram_at head_at items_at content_at records_at counted_at record_at body_at certificate_at note_at accusation_at key_at signature_at head_bytes records_bytes note_bytes accusation_bytes summary_at entries_at entry_at entry_bytes summary_bytes certificate_bytes key_bytes
 views = (refl, refl, refl, refl)
 
 -- ---- a member that answers no ping
@@ -101,7 +101,7 @@ summary rings = datagram_bytes (kinds.Summary 1 false (record { page = 0; listed
 
 -- It gets a ping and a summary at each tick.
 first_tick : whats 0 ≡ told.Sent 0 2 (ping 0) ∷ told.Sent 1 2 (summary 0) ∷ []
-unfolding all_numbers in_view_by started signs signs_and_sends wants takes lives state_of delivered handles refusal sends certificate_of neighbours neighbours_and answering_mask bits_where page partner page_number lacking accuses passed probed_at due_tick ticked read_of whole_of datagram_at head_at items_at content_at records_at counted_at record_at body_at certificate_at note_at accusation_at key_at signature_at head_bytes records_bytes note_bytes accusation_bytes summary_at entries_at entry_at entry_bytes summary_bytes certificate_bytes key_bytes
+unfolding all_numbers in_view_by started signs signs_and_sends wants takes lives state_of delivered handles refusal sends certificate_of neighbours neighbours_and answering_mask bits_where page partner page_number lacking accuses fresh spreads passed probed_at due_tick ticked read_of whole_of datagram_at head_at items_at content_at records_at counted_at record_at body_at certificate_at note_at accusation_at key_at signature_at head_bytes records_bytes note_bytes accusation_bytes summary_at entries_at entry_at entry_bytes summary_bytes certificate_bytes key_bytes
 first_tick = refl
 
 -- At the third tick two pings are unanswered, and it is accused.
@@ -109,13 +109,13 @@ abbrev accusation : List ℕ
 accusation = datagram_bytes (kinds.Records 1 (record { body = acc 1 2 1 0; signature = 1 ∷ [] } ∷ []))
 
 third_tick : whats 2 ≡ told.Silent 2 ∷ told.Spent 1 (acc 1 2 1 0) ∷ told.Sent 0 2 accusation ∷ told.Sent 1 2 (ping 2) ∷ told.Sent 2 2 (summary 1) ∷ []
-unfolding all_numbers in_view_by started signs signs_and_sends wants takes lives state_of delivered handles refusal sends certificate_of neighbours neighbours_and answering_mask bits_where page partner page_number lacking accuses passed probed_at due_tick ticked read_of whole_of datagram_at head_at items_at content_at records_at counted_at record_at body_at certificate_at note_at accusation_at key_at signature_at head_bytes records_bytes note_bytes accusation_bytes summary_at entries_at entry_at entry_bytes summary_bytes certificate_bytes key_bytes
+unfolding all_numbers in_view_by started signs signs_and_sends wants takes lives state_of delivered handles refusal sends certificate_of neighbours neighbours_and answering_mask bits_where page partner page_number lacking accuses fresh spreads passed probed_at due_tick ticked read_of whole_of datagram_at head_at items_at content_at records_at counted_at record_at body_at certificate_at note_at accusation_at key_at signature_at head_bytes records_bytes note_bytes accusation_bytes summary_at entries_at entry_at entry_bytes summary_bytes certificate_bytes key_bytes
 third_tick = refl
 
 -- The accusation is kept, so no other follows; four ticks later the member is removed.
 later_ticks : (whats 3 ≡ told.Sent 0 2 (ping 3) ∷ told.Sent 1 2 (summary 1) ∷ [])
     × (whats 6 ≡ told.Expired (accused 1 2 1 0) ∷ told.Removed 2 ∷ told.Sent 0 2 (datagram_bytes (kinds.Summary 1 false (record { page = 0; listed = entry 1 1 7 0 ∷ entry 2 1 7 0 ∷ [] }))) ∷ [])
-unfolding all_numbers in_view_by started signs signs_and_sends wants takes lives state_of delivered handles refusal sends certificate_of neighbours neighbours_and answering_mask bits_where page partner page_number lacking accuses passed probed_at due_tick ticked read_of whole_of datagram_at head_at items_at content_at records_at counted_at record_at body_at certificate_at note_at accusation_at key_at signature_at head_bytes records_bytes note_bytes accusation_bytes summary_at entries_at entry_at entry_bytes summary_bytes certificate_bytes key_bytes
+unfolding all_numbers in_view_by started signs signs_and_sends wants takes lives state_of delivered handles refusal sends certificate_of neighbours neighbours_and answering_mask bits_where page partner page_number lacking accuses fresh spreads passed probed_at due_tick ticked read_of whole_of datagram_at head_at items_at content_at records_at counted_at record_at body_at certificate_at note_at accusation_at key_at signature_at head_bytes records_bytes note_bytes accusation_bytes summary_at entries_at entry_at entry_bytes summary_bytes certificate_bytes key_bytes
 later_ticks = (refl, refl)
 
 -- The same of the third tick, from the state after the tick alone: what is reported of accusations, and what goes out.
@@ -125,5 +125,5 @@ third = at_tick (setting 1) (alone 2)
 from_the_state : let st = state_of (setting 1) third in
     (accusing_told (setting 1) st third.stored.next (to_accuse (setting 1) third st) ≡ told.Silent 2 ∷ told.Spent 1 (acc 1 2 1 0) ∷ [])
     × (goes_out (setting 1) third st (alone 3) ≡ (2, accusation) ∷ (2, ping 2) ∷ (2, summary 1) ∷ [])
-unfolding all_numbers in_view_by started signs signs_and_sends wants takes lives state_of delivered handles refusal sends certificate_of neighbours neighbours_and answering_mask bits_where page partner page_number lacking accuses passed probed_at due_tick ticked read_of whole_of datagram_at head_at items_at content_at records_at counted_at record_at body_at certificate_at note_at accusation_at key_at signature_at head_bytes records_bytes note_bytes accusation_bytes summary_at entries_at entry_at entry_bytes summary_bytes certificate_bytes key_bytes
+unfolding all_numbers in_view_by started signs signs_and_sends wants takes lives state_of delivered handles refusal sends certificate_of neighbours neighbours_and answering_mask bits_where page partner page_number lacking accuses fresh spreads passed probed_at due_tick ticked read_of whole_of datagram_at head_at items_at content_at records_at counted_at record_at body_at certificate_at note_at accusation_at key_at signature_at head_bytes records_bytes note_bytes accusation_bytes summary_at entries_at entry_at entry_bytes summary_bytes certificate_bytes key_bytes
 from_the_state = (refl, refl)

@@ -53,6 +53,7 @@ setting me =
       me = me;
       authority = key;
       indexes = 32;
+      heal = None;
       places = places;
       verifies = λ k r. true;
       signature = λ q body. q ∷ [];

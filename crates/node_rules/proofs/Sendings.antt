@@ -6,7 +6,7 @@ use Rattle.std.proofs.lemmas.List.Elements.{filter-append}
 use Rattle.ff_ids.specs.declared.summary.Summary.{Summary}
 use Rattle.ff_ids.specs.Steps.{Event, Ticks}
 use Rattle.records.specs.declared.Body.{Body}
-use Rattle.records.specs.declared.Body.TheVariants.{Accusation}
+use Rattle.records.specs.declared.Body.TheVariants.{Note, Accusation}
 use Rattle.records.specs.declared.Record.{Record}
 use Rattle.datagram.specs.declared.Datagram.{Datagram}
 use Rattle.datagram.specs.declared.Datagram.TheVariants as kinds
@@ -19,7 +19,7 @@ use Rattle.journal.specs.declared.event.What.TheVariants as told
 use Rattle.node_rules.specs.Nodes.{Setting, Node, state_of, event_of}
 use Rattle.node_rules.specs.Pages.{page, lacking}
 use Rattle.node_rules.specs.Calls.{Call, begun, tells, lives, takes, spends, signs, sends, own_record}
-use Rattle.node_rules.specs.Deliveries.{answer_to, is_other, gives, replies, delivered}
+use Rattle.node_rules.specs.Deliveries.{answer_to, returning_note, is_other, gives, replies, delivered}
 use Rattle.node_rules.specs.Leaving.{leaving}
 use Rattle.node_rules.specs.Lives.{is_of_life, Input, call_of}
 use Rattle.node_rules.specs.Verdicts.{all_at, told_that, is_apart}
@@ -88,12 +88,15 @@ sending s =
       told = λ what c beside h. sendings-tells s what c (beside-apart what beside) h;
       sent = sendings-sends s;
       taken = λ r c fine h. sendings-takes s r c h;
-      answered = λ r a c fine is me left h. sendings-signs s (answer_to s (takes s r c).node.stored a) (takes s r c) (sendings-takes s r c h);
+      answered = λ r a c fine is me may left h. sendings-signs s (answer_to s (takes s r c).node.stored a) (takes s r c) (sendings-takes s r c h);
+      returned = λ r a c back may left h. sendings-signs s (Note (returning_note s c.node.stored)) c h;
       accused = λ a c by left h. sendings-signs s (Accusation a) c h;
       departed = λ c left h. sendings-signs s (leaving s c.node.stored) c h;
       stopped = λ c h. sendings-tells s told.Stopped c refl h;
       passed = λ c h. sendings-lives s Ticks c h;
       probed = λ p c h. h;
+      spanned = λ c h. h;
+      spread = λ c h. h;
     }
 
 pub call-sendings : (s : Setting) (n : Node) (i : Input) → TellsSendings (call_of s n i)
@@ -164,15 +167,15 @@ brings-reply s n what sent to false number c b =
     record { told = more.told; sent_so = more.sent_so ∙ ap (λ x. sent ++ (to, datagram_bytes (kinds.Summary s.me true (page x number))) ∷ []) b.node_so; node_so = more.node_so }
 
 pub summary-brings : (s : Setting) (n : Node) (bytes : List ℕ) (from : ℕ) (flag : Bool) (theirs : Summary) → read_of bytes ≡ Ok (kinds.Summary from flag theirs)
-    → Brings s n (told.Summary from theirs.page flag) (cond (is_other s n from) (given s from (lacking n theirs) ++ reply s n from flag theirs.page) []) n (delivered s n bytes)
+    → Brings s n (told.Summary from theirs.page flag) (cond (is_other s n from) (given s from (lacking n from theirs) ++ reply s n from flag theirs.page) []) n (delivered s n bytes)
 unfolding delivered
 summary-brings s n bytes from flag theirs h =
     let what : whats.What = told.Summary from theirs.page flag in
     let c1 : Call = told_one s n what in
     let b : Brings s n what [] n c1 = brings-one s n what refl in
-    let out : List (ℕ × List ℕ) = given s from (lacking n theirs) ++ reply s n from flag theirs.page in
-    let c2 : Call = replies s from flag theirs.page (gives s from (lacking n theirs) c1) in
-    rw h (by_case (is_other s n from) c2 c1 what out (brings-reply s n what (given s from (lacking n theirs)) from flag theirs.page (gives s from (lacking n theirs) c1) (brings-given s n what from (lacking n theirs) c1 b)) b)
+    let out : List (ℕ × List ℕ) = given s from (lacking n from theirs) ++ reply s n from flag theirs.page in
+    let c2 : Call = replies s from flag theirs.page (gives s from (lacking n from theirs) c1) in
+    rw h (by_case (is_other s n from) c2 c1 what out (brings-reply s n what (given s from (lacking n from theirs)) from flag theirs.page (gives s from (lacking n from theirs) c1) (brings-given s n what from (lacking n from theirs) c1 b)) b)
   where
     by_case : (t : Bool) (x y : Call) (what : whats.What) (sent : List (ℕ × List ℕ)) → Brings s n what sent n x → Brings s n what [] n y → Brings s n what (cond t sent []) n (cond t x y)
     by_case true x y what sent hx hy = hx

@@ -4,6 +4,7 @@ use Rattle.std.specs.Prelude.{Result, Ok, Err, is_some, filter_map, Contains}
 use Rattle.std.specs.List.{AllByRecursion}
 use Rattle.std.proofs.lemmas.Bool.{false≢true}
 use Rattle.std.proofs.lemmas.List.Elements.{filter_map-append}
+use Rattle.ff_ids.specs.declared.NoteBody.{NoteBody}
 use Rattle.ff_ids.specs.declared.Fault.{Fault}
 use Rattle.ff_ids.specs.Faults.{note_fault, accusation_fault}
 use Rattle.ff_ids.specs.Steps.{Event, Ticks as Passes, Report, step}
@@ -24,7 +25,7 @@ use Rattle.validate.specs.Table.{certificate_fault, signature_fault}
 use Rattle.node_rules.specs.Nodes.{Setting, Node, state_of, event_of, certificate_of, public_key_of}
 use Rattle.node_rules.specs.Refusals.{refusal, refusal_of}
 use Rattle.node_rules.specs.Calls.{Call, begun, tells, told_of, whats_of, lives, takes, spends, signs, sends, is_used_up, own_record}
-use Rattle.node_rules.specs.Deliveries.{answer_to, handles, handles_all, hears, delivered}
+use Rattle.node_rules.specs.Deliveries.{answer_to, returning_note, handles, handles_all, hears, delivered}
 use Rattle.node_rules.specs.Starting.{blank, first_note, opened, started}
 use Rattle.node_rules.specs.Leaving.{leaving}
 use Rattle.node_rules.specs.Lives.{Input, Delivers, Ticks, IsKit, call_of, after_calls, life_of, Leaves}
@@ -182,15 +183,20 @@ carrying s own some sign =
       told = λ what c beside h. record { all = h.all; signed = λ r i. h.signed r (signed-tells s what c r (made-beside s what beside) i) };
       sent = λ d c to h. good-then s own c (sends s d c to) (k.sent d c to h.all) ((following s c.node).sent d c to (follows-itself s c.node)) (signed-sends s d c to) h;
       taken = λ r c fine h. good-then s own c (takes s r c) (k.taken r c fine h.all) ((following s c.node).taken r c fine (follows-itself s c.node)) (signed-takes s r c) h;
-      answered = λ r a c fine is me left h.
+      answered = λ r a c fine is me may left h.
           let c1 : Call = takes s r c in
           let h1 : Good s own c1 = good-then s own c c1 (k.taken r c fine h.all) ((following s c.node).taken r c fine (follows-itself s c.node)) (signed-takes s r c) h in
-          good-signs s own (answer_to s c1.node.stored a) c1 sign refl (λ x e. note-is_none _ x e) left (k.answered r a c fine is me left h.all) h1;
+          good-signs s own (answer_to s c1.node.stored a) c1 sign refl (λ x e. note-is_none _ x e) left (k.answered r a c fine is me may left h.all) h1;
+      returned = λ r a c asks may left h.
+          let note : NoteBody = returning_note s c.node.stored in
+          good-signs s own (Note note) c sign refl (note-is_none note) left (k.returned r a c asks may left h.all) h;
       accused = λ a c by left h. good-signs s own (Accusation a) c sign (ap (public_key_of c.node) by) (accusation-is_none a) left (k.accused a c by left h.all) h;
       departed = λ c left h. good-signs s own (leaving s c.node.stored) c sign refl (λ x e. note-is_none _ x e) left (k.departed c left h.all) h;
       stopped = λ c h. record { all = k.stopped c h.all; signed = λ r i. h.signed r (signed-tells s told.Stopped c r refl i) };
       passed = λ c h. good-then s own c (lives s Passes c) (k.passed c h.all) ((following s c.node).passed c (follows-itself s c.node)) (signed-lives s Passes c) h;
       probed = λ p c h. good-then s own c (record c { node = record c.node { probes = p } }) (k.probed p c h.all) ((following s c.node).probed p c (follows-itself s c.node)) (λ r i. i) h;
+      spanned = λ c h. good-then s own c (record c { node = record c.node { since = c.node.stored.epoch } }) (k.spanned c h.all) ((following s c.node).spanned c (follows-itself s c.node)) (λ r i. i) h;
+      spread = λ c h. good-then s own c (record c { node = record c.node { news = [] } }) (k.spread c h.all) ((following s c.node).spread c (follows-itself s c.node)) (λ r i. i) h;
     }
 
 good-begun : (s : Setting) (own : Key) (n : Node) → KeepsAll s own n → Good s own (begun n)

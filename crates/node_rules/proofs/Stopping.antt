@@ -3,11 +3,11 @@
 use Rattle.std.proofs.Common.{◌≡◌, ℕ, ◌+◌, ◌-◌, Bool, true, false, eqb, List, [], ◌∷◌, ◌++◌, Option, Some, None, inl, inr, refl, ap, sym, ◌∙◌, subst, arith}
 use Rattle.std.specs.Prelude.{Result, Ok, Err, fold}
 use Rattle.std.proofs.lemmas.Bool.{cases_Bool}
-use Rattle.ff_ids.specs.declared.AccBody.{AccBody}
+use Rattle.ff_ids.specs.declared.NoteBody.{NoteBody}
 use Rattle.ff_ids.specs.declared.Fault.{Fault}
 use Rattle.ff_ids.specs.Views.{State}
 use Rattle.records.specs.declared.Body.{Body}
-use Rattle.records.specs.declared.Body.TheVariants.{Certificate, Note, Accusation}
+use Rattle.records.specs.declared.Body.TheVariants.{Note}
 use Rattle.records.specs.declared.Record.{Record}
 use Rattle.epoch_store.specs.declared.Stored.{Stored}
 use Rattle.datagram.specs.declared.Datagram.{Datagram}
@@ -16,20 +16,20 @@ use Rattle.datagram.specs.Grammar.{read_of}
 use Rattle.journal.specs.declared.event.What.TheVariants as told
 use Rattle.node_rules.specs.Nodes.{Setting, Node, state_of, neighbours, neighbours_and}
 use Rattle.node_rules.specs.Refusals.{refusal}
-use Rattle.node_rules.specs.Calls.{Call, begun, lives, tells, takes, wants, stops, is_used_up}
-use Rattle.node_rules.specs.Deliveries.{answer_to, answers, judged, handles, handles_all}
-use Rattle.node_rules.specs.Ticking.{accusation_on, ring_for, has_accused, wants_accusation, accuses, accuses_all, gossips, is_due, passed, pings_all, pings_in, probed_at, round_of, silent_in, silent_at}
+use Rattle.node_rules.specs.Calls.{Call, begun, tells, wants, stops, is_used_up}
+use Rattle.node_rules.specs.Deliveries.{asked_with, gives_note, settles, handles, handles_all}
+use Rattle.node_rules.specs.Ticking.{accusation_on, ring_for, has_accused, wants_accusation, accuses, accuses_all, gossips, is_due, passed, pings_all, pings_in, probed_at, spread_at, round_of, silent_in, silent_at}
 use Rattle.node_rules.specs.Leaving.{leaving, leaves}
 use Rattle.node_rules.specs.OnDisks.{Input, Delivers, Ticks, Leaves, OnDisk, hears_on, delivered_on, accuses_on, due_on, ticked_on, left_on, counting, called}
 use Rattle.node_rules.specs.Lives.{call_of}
 use Rattle.node_rules.specs.Verdicts.{when_all_handled, told_that, is_took}
-use Rattle.node_rules.specs.Answering.{accusation_to_answer}
+use Rattle.node_rules.specs.Answering.{asked_by}
 use Rattle.node_rules.specs.Outgoing.{at_tick}
 use Rattle.node_rules.specs.Stopping.{WantsAnswer, StopsAnswering, StopsAccusing, StopsLeaving, StopsAtOnce, StopsBehind, StoppedDeliveryEnds, StoppedVerdictsAreTold, StoppedTickEnds, StoppedLeavingEnds, OnlySignaturesStop, WholeCallsGoOn}
-use Rattle.node_rules.proofs.Small.{stored-takes}
-use Rattle.node_rules.proofs.GoingOn.{on-hears, on-probed, whole-goes_on}
+use Rattle.node_rules.proofs.Small.{stored-settles}
+use Rattle.node_rules.proofs.GoingOn.{on-hears, on-probed, on-settles, on-spread, whole-goes_on}
 use Rattle.node_rules.proofs.Handling.{delivery-ends, node-all, until-told, wants-failing}
-use Rattle.node_rules.proofs.Ticks.{Stands, stands-behind, starts, stored-probed, tick-ends}
+use Rattle.node_rules.proofs.Ticks.{Stands, stands-behind, starts, stored-spread, tick-ends}
 use Rattle.node_rules.proofs.OwnNote.{stored-lives}
 use Rattle.node_rules.proofs.Called.{ComesSoFar, accused-on, all-accuse, all-handle, all-leave, called-none, called-so_far, chosen, counts, delivered_until, ended-apart, handled-on, leaves_once, left_until, on-gossips, other, put-accusing, put-answering, put-leaving, stopped-at}
 
@@ -55,12 +55,6 @@ delivery-stops s n bytes put stop = subst (StopsBehind _ _ _) (sym (answering-is
 pub verdicts-stop : StoppedVerdictsAreTold
 verdicts-stop s n bytes put stop = ap (told_that is_took) (answering-is s n bytes put stop) ∙ until-told s n stop.before stop.at
 
--- an answer that ends the call is wanted
-record IsAsked (s : Setting) (f : Option Fault) (b : Body) (c : Call) : Type 0 where
-  accusation : AccBody
-  asked : accusation_to_answer s f b ≡ Some accusation
-  left : is_used_up s c.node ≡ false
-
 wants-left : (s : Setting) (body : Body) (to : State → List ℕ) (c : Call) → c.ended ≡ false → (wants false s body to c).ended ≡ true → is_used_up s c.node ≡ false
 unfolding wants
 wants-left s body to c going over =
@@ -69,37 +63,18 @@ wants-left s body to c going over =
       | inr left ↦ left
     ]
 
-asked-answers : (s : Setting) (b : Body) (c : Call) → c.ended ≡ false → (answers false s b c).ended ≡ true → IsAsked s None b c
-asked-answers s (Certificate x) c going over = absurd (ended-apart c.ended over going)
-asked-answers s (Note x) c going over = absurd (ended-apart c.ended over going)
-asked-answers s (Accusation a) c going over =
-    let answer : Call = wants false s (answer_to s c.node.stored a) (neighbours s) c in
-    elim (cases_Bool (eqb a.accused s.me)) [
-      | inl me ↦
-          record {
-            accusation = a;
-            asked = chosen (eqb a.accused s.me) (Some a) None me;
-            left = wants-left s (answer_to s c.node.stored a) (neighbours s) c going (ap (λ (x : Call). x.ended) (sym (chosen (eqb a.accused s.me) answer c me)) ∙ over);
-          }
-      | inr isnt ↦ absurd (ended-apart c.ended (ap (λ (x : Call). x.ended) (sym (other (eqb a.accused s.me) answer c isnt)) ∙ over) going)
-    ]
-
-ended-takes : (s : Setting) (r : Record) (c : Call) → (takes s r c).ended ≡ c.ended
-unfolding takes lives
-ended-takes s r c = refl
-
-asked-judged : (s : Setting) (f : Option Fault) (r : Record) (c : Call) → c.ended ≡ false → (judged false s f r c).ended ≡ true → IsAsked s f r.body c
-asked-judged s (Some f) r c going over = absurd (ended-apart c.ended over going)
-asked-judged s None r c going over =
-    let c1 : Call = tells s (told.Took r.body None) c in
-    let h = asked-answers s r.body (takes s r c1) (ended-takes s r c1 ∙ going) over in
-    record { accusation = h.accusation; asked = h.asked; left = ap (λ (k : Stored). eqb k.next s.indexes) (sym (stored-takes s r c1)) ∙ h.left }
+-- a note whose put ends the call is wanted
+asked-gives_note : (s : Setting) (n : Node) (r : Record) (note : Option NoteBody) (c : Call)
+    → asked_by s n r ≡ note → c.node.stored ≡ n.stored → c.ended ≡ false → (gives_note false s note c).ended ≡ true → WantsAnswer s n r
+asked-gives_note s n r None c asked same going over = absurd (ended-apart c.ended over going)
+asked-gives_note s n r (Some note) c asked same going over =
+    record { note = note; asked = asked; left = ap (λ (k : Stored). eqb k.next s.indexes) (sym same) ∙ wants-left s (Note note) (neighbours s) c going over }
 
 asked-handles : (s : Setting) (c : Call) (r : Record) → c.ended ≡ false → (handles false s c r).ended ≡ true → WantsAnswer s c.node r
 unfolding handles
 asked-handles s c r going over =
-    let h = asked-judged s (refusal s c.node r) r c going over in
-    record { accusation = h.accusation; asked = h.asked; left = h.left }
+    let f : Option Fault = refusal s c.node r in
+    asked-gives_note s c.node r (asked_with s c.node f r.body r) (settles s f r c) refl (stored-settles s f r c) (on-settles s f r c ∙ going) over
 
 only-hears : (s : Setting) (n : Node) (bytes : List ℕ) (put : ℕ) (heard : Result Datagram ℕ) → read_of bytes ≡ heard → (hears_on counting s heard (counts (begun n) (Some put))).call.ended ≡ true → StopsAnswering s n bytes put
 only-hears s n bytes put (Err place) read over = absurd (ended-apart _ over (on-hears s (Err place) (begun n)))
@@ -127,15 +102,15 @@ stored-at_tick : (s : Setting) (n : Node) → (at_tick s n).stored ≡ n.stored
 unfolding passed
 stored-at_tick s n = stored-lives s _ (begun n)
 
-next-probed : (s : Setting) (n : Node) → (probed_at s n).node.stored.next ≡ n.stored.next
-next-probed s n = ap (λ (k : Stored). k.next) (stored-probed s n ∙ stored-at_tick s n)
+next-spread : (s : Setting) (n : Node) → (spread_at s n).node.stored.next ≡ n.stored.next
+next-spread s n = ap (λ (k : Stored). k.next) (stored-spread s n ∙ stored-at_tick s n)
 
 pub tick-stops : StoppedTickEnds
 tick-stops s n put stop =
     let ends = tick-ends s n stop.before stop.at stop.behind stop.silent stop.unaccused stop.left in
     let it = put-accusing s n stop.before stop.at stop.behind stop.silent ends.over in
     let same : put ≡ it.put =
-    less n.stored.next it.put put (stop.puts ∙ ap (λ k. k - n.stored.next) (it.counted ∙ ap (λ k. k + it.put) (next-probed s n))) in
+    less n.stored.next it.put put (stop.puts ∙ ap (λ k. k - n.stored.next) (it.counted ∙ ap (λ k. k + it.put) (next-spread s n))) in
     subst (StopsBehind _ _ _) (sym (ap (λ k. called s n Ticks (Some k)) same ∙ it.is)) ends
 
 -- an accusation that ends the call is wanted
@@ -159,13 +134,13 @@ wanted-accuses s c m going over =
       | inr none ↦ record { unaccused = none; left = wanted-left s m ring c1 going (ap (λ (x : Call). x.ended) (sym (other test c wanted none)) ∙ over) }
     ]
 
-only-accuses : (s : Setting) (n : Node) (put : ℕ) → (fold (accuses_on counting s) (counts (probed_at s n) (Some put)) (silent_in s (at_tick s n) (state_of s (at_tick s n)))).call.ended ≡ true → StopsAccusing s n put
+only-accuses : (s : Setting) (n : Node) (put : ℕ) → (fold (accuses_on counting s) (counts (spread_at s n) (Some put)) (silent_in s (at_tick s n) (state_of s (at_tick s n)))).call.ended ≡ true → StopsAccusing s n put
 unfolding silent_at
 only-accuses s n put over =
     let st : State = state_of s (at_tick s n) in
     let silent : List ℕ = silent_in s (at_tick s n) st in
-    let c0 : Call = probed_at s n in
-    let h = stopped-at (λ works c x. accuses works s c x) silent c0 put (all-accuse s) (on-probed s n)
+    let c0 : Call = spread_at s n in
+    let h = stopped-at (λ works c x. accuses works s c x) silent c0 put (all-accuse s) (on-spread s n)
     (ap (λ (o : OnDisk (Option ℕ)). o.call.ended) (sym (accused-on counting s (counts c0 (Some put)) silent)) ∙ over) in
     let c : Call = accuses_all s h.before c0 in
     let wanted = wanted-accuses s c h.at h.on h.over in
@@ -178,18 +153,18 @@ only-accuses s n put over =
       silent = h.split;
       unaccused = sym (next.1.same h.at (inl refl)) ∙ wanted.unaccused;
       left = wanted.left;
-      puts = more n.stored.next c.node.stored.next put (h.counted ∙ ap (λ k. k + put) (next-probed s n));
+      puts = more n.stored.next c.node.stored.next put (h.counted ∙ ap (λ k. k + put) (next-spread s n));
     }
 
 only-ticks : (s : Setting) (n : Node) (put : ℕ) → (ticked_on counting s n (Some put)).call.ended ≡ true → StopsAccusing s n put
-unfolding ticked_on due_on
+unfolding ticked_on due_on spread_at
 only-ticks s n put over =
     let st : State = state_of s (at_tick s n) in
     let silent : List ℕ = silent_in s (at_tick s n) st in
     let sent : List (ℕ × ℕ) = pings_in s (at_tick s n) st in
     let round : ℕ = round_of s st in
     let d : OnDisk (Option ℕ) = counts (probed_at s n) (Some put) in
-    let d1 : OnDisk (Option ℕ) = fold (accuses_on counting s) d silent in
+    let d1 : OnDisk (Option ℕ) = fold (accuses_on counting s) (counts (spread_at s n) (Some put)) silent in
     let ended : OnDisk (Option ℕ) → Bool = λ o. o.call.ended in
     elim (cases_Bool (is_due s st)) [
       | inr never ↦ absurd (ended-apart _ (ap ended (sym (other (is_due s st) (due_on counting s silent sent round d) d never)) ∙ over) (on-probed s n))

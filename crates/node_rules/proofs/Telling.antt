@@ -120,12 +120,15 @@ telling s n =
       told = tells-other s n;
       sent = tells-sends s n;
       taken = λ r c fine h. tells-takes s n r c h;
-      answered = λ r a c fine is me left h. tells-signs s n _ _ (tells-takes s n r c h);
+      answered = λ r a c fine is me may left h. tells-signs s n _ _ (tells-takes s n r c h);
+      returned = λ r a c back may left h. tells-signs s n _ c h;
       accused = λ a c by left h. tells-signs s n (Accusation a) c h;
       departed = λ c left h. tells-signs s n (leaving s c.node.stored) c h;
       stopped = λ c h. let k = tells-other s n told.Stopped c refl h in record { more = k.more; grew = k.grew; told_so = k.told_so };
       passed = λ c h. tells-lives s n Ticks c h;
       probed = λ p c h. record { more = h.more; grew = h.grew; told_so = h.told_so };
+      spanned = λ c h. record { more = h.more; grew = h.grew; told_so = h.told_so };
+      spread = λ c h. record { more = h.more; grew = h.grew; told_so = h.told_so };
     }
 
 pub call-tells : (s : Setting) (n : Node) (i : Input) → TellsItsLife s n (call_of s n i)

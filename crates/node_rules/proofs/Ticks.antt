@@ -18,6 +18,7 @@ use Rattle.detector.specs.Watching.{is_watched, as_watched}
 use Rattle.detector.specs.Silence.{is_silent}
 use Rattle.records.specs.declared.Body.{Body}
 use Rattle.records.specs.declared.Body.TheVariants.{Accusation}
+use Rattle.records.specs.declared.Record.{Record}
 use Rattle.epoch_store.specs.declared.Stored.{Stored}
 use Rattle.datagram.specs.declared.Datagram.{Datagram}
 use Rattle.datagram.specs.declared.Datagram.TheVariants as kinds
@@ -28,7 +29,7 @@ use Rattle.journal.specs.declared.event.What.TheVariants as told
 use Rattle.node_rules.specs.Nodes.{Setting, Node, state_of, neighbours_and, neighbours}
 use Rattle.node_rules.specs.Pages.{page, partner, page_number}
 use Rattle.node_rules.specs.Calls.{Call, begun, tells, lives, signs, wants, stops, sends, is_used_up}
-use Rattle.node_rules.specs.Ticking.{ring_for, accusation_on, is_by, has_accused, accuses, accuses_all, is_due, silent_in, pings_in, round_of, pings_all, summary_to, passed, probed_at, due_tick, ticked, silent_at}
+use Rattle.node_rules.specs.Ticking.{ring_for, accusation_on, is_by, has_accused, accuses, accuses_all, fresh, spreads_all, spreads, is_due, silent_in, pings_in, round_of, pings_all, summary_to, passed, probed_at, spread_at, due_tick, ticked, silent_at}
 use Rattle.node_rules.specs.Leaving.{leaving, leaves, left}
 use Rattle.node_rules.specs.Lives.{Input, Delivers, Ticks as Tick, Leaves, call_of}
 use Rattle.node_rules.specs.Verdicts.{all_at, told_that, is_apart}
@@ -36,12 +37,12 @@ use Rattle.node_rules.specs.Answering.{to_each}
 use Rattle.node_rules.specs.Accusing.{MayAccuse, AccusesTheSilent, TellsAccusation}
 use Rattle.node_rules.specs.Stopping.{StopsBehind}
 use Rattle.node_rules.specs.OnRings.{Rises}
-use Rattle.node_rules.specs.Outgoing.{at_tick, to_accuse, accusation_of, accusation_by, accusations_out, pings_out, summary_out, goes_out, unaccused, accusing_told}
+use Rattle.node_rules.specs.Outgoing.{at_tick, to_accuse, accusation_of, accusation_by, accusations_out, news_in, news_out, pings_out, summary_out, goes_out, unaccused, accusing_told}
 use Rattle.node_rules.proofs.Called.{ticked_until}
-use Rattle.node_rules.proofs.Small.{node-sends, state-signs, stored-signs}
-use Rattle.node_rules.proofs.Accusations.{is_at, OnlyKept, own_accusation, may_accuse, lively, accuses-is, is-monitor, step-accused, only_kept-accuses, only_kept-more, state-probed, silent-watched}
+use Rattle.node_rules.proofs.Small.{node-sends, state-signs, stored-signs, stored-spreads}
+use Rattle.node_rules.proofs.Accusations.{is_at, OnlyKept, own_accusation, may_accuse, lively, accuses-is, is-monitor, step-accused, only_kept-accuses, only_kept-more, state-probed, state-spread, silent-watched}
 use Rattle.node_rules.proofs.RingLemmas.{rises-lower}
-use Rattle.node_rules.proofs.Handling.{nil-right, IsOver, apart-over, all_at-append, in-all_at, accuses-nobody, wants-failing, picked, picked-append, that-tells, that-lives, that-sends, that-wants, sent-wants, node-wants}
+use Rattle.node_rules.proofs.Handling.{nil-right, IsOver, apart-over, all_at-append, in-all_at, accuses-nobody, wants-failing, picked, picked-append, that-tells, that-lives, that-sends, that-sends_to_all, that-wants, sent-sends_to_all, sent-wants, node-wants}
 
 -- ---- in rising order
 
@@ -324,12 +325,12 @@ summary-told test s round (Some to) c over = that-sends test s (kinds.Summary s.
 
 -- ---- the tick
 
-pub starts : (s : Setting) (n : Node) → Stands s (state_of s (at_tick s n)) (probed_at s n) 0 (silent_in s (at_tick s n) (state_of s (at_tick s n)))
+pub starts : (s : Setting) (n : Node) → Stands s (state_of s (at_tick s n)) (spread_at s n) 0 (silent_in s (at_tick s n) (state_of s (at_tick s n)))
 unfolding silent_at
 starts s n =
     record {
-      state = ((state_of s (at_tick s n)).kept, state-probed s n);
-      same = λ m i. ap (λ (x : State). has_accused s x m) (state-probed s n);
+      state = ((state_of s (at_tick s n)).kept, state-spread s n);
+      same = λ m i. ap (λ (x : State). has_accused s x m) (state-spread s n);
       watched = λ m i. silent-watched s n m i;
       rises = rises-silent s (at_tick s n) (state_of s (at_tick s n));
     }
@@ -337,6 +338,10 @@ starts s n =
 pub stored-probed : (s : Setting) (n : Node) → (probed_at s n).node.stored ≡ (at_tick s n).stored
 unfolding probed_at
 stored-probed s n = refl
+
+pub stored-spread : (s : Setting) (n : Node) → (spread_at s n).node.stored ≡ (at_tick s n).stored
+unfolding spread_at
+stored-spread s n = stored-spreads s (probed_at s n) ∙ stored-probed s n
 
 sent-probed : (s : Setting) (n : Node) → (probed_at s n).sent ≡ []
 unfolding probed_at passed lives
@@ -346,27 +351,66 @@ told-probed : (s : Setting) (n : Node) → told_that is_apart (probed_at s n) �
 unfolding probed_at passed
 told-probed s n = that-lives is_apart s Ticks (begun n) apart-over
 
-due-sent : (s : Setting) (st : State) (c : Call) (low : ℕ) (ms : List ℕ) (pings : List (ℕ × ℕ)) (round : ℕ) → Stands s st c low ms → c.sent ≡ []
-    → (due_tick s ms pings round c).sent ≡ accusations_out s st c.node.stored.next (unaccused s st ms) ++ pings_out s pings ++ summary_out s (due_tick s ms pings round c).node round
+-- ---- news
+
+sent-spreads_all : (s : Setting) (records : List Record) (c : Call) → (spreads_all s records c).sent ≡ c.sent ++ news_in s (state_of s c.node) records
+sent-spreads_all s [] c = sym (nil-right c.sent)
+sent-spreads_all s (r ∷ records) c = sent-sends_to_all s (neighbours s (state_of s c.node)) (kinds.Records s.me (r ∷ records)) c
+
+sent-spreads : (s : Setting) (c : Call) → (spreads s c).sent ≡ c.sent ++ news_out s (state_of s c.node) c.node
+unfolding spreads
+sent-spreads s c = sent-spreads_all s (fresh c.node) c
+
+that-spreads_all : (test : whats.What → Bool) (s : Setting) (records : List Record) (c : Call) → IsOver test → told_that test (spreads_all s records c) ≡ told_that test c
+that-spreads_all test s [] c over = refl
+that-spreads_all test s (r ∷ records) c over = that-sends_to_all test s (neighbours s (state_of s c.node)) (kinds.Records s.me (r ∷ records)) c over
+
+that-spreads : (test : whats.What → Bool) (s : Setting) (c : Call) → IsOver test → told_that test (spreads s c) ≡ told_that test c
+unfolding spreads
+that-spreads test s c over = that-spreads_all test s (fresh c.node) c over
+
+-- the probes see the tick, and what is fresh stays so
+fresh-probed : (s : Setting) (n : Node) → fresh (probed_at s n).node ≡ fresh (at_tick s n)
+unfolding fresh probed_at
+fresh-probed s n = refl
+
+pub sent-spread : (s : Setting) (n : Node) → (spread_at s n).sent ≡ news_out s (state_of s (at_tick s n)) (at_tick s n)
+unfolding spread_at
+sent-spread s n =
+    let c : Call = probed_at s n in
+    sent-spreads s c ∙ ap (λ xs. xs ++ news_out s (state_of s c.node) c.node) (sent-probed s n)
+    ∙ ap (λ (x : State). news_out s x c.node) (state-probed s n)
+    ∙ ap (news_in s (state_of s (at_tick s n))) (fresh-probed s n)
+
+pub told-spread : (s : Setting) (n : Node) → told_that is_apart (spread_at s n) ≡ []
+unfolding spread_at
+told-spread s n = that-spreads is_apart s (probed_at s n) apart-over ∙ told-probed s n
+
+-- ---- a tick that is due
+
+due-sent : (s : Setting) (st : State) (c : Call) (low : ℕ) (ms : List ℕ) (pings : List (ℕ × ℕ)) (round : ℕ) (news : List (ℕ × List ℕ)) → Stands s st (spreads s c) low ms → (spreads s c).sent ≡ news
+    → (due_tick s ms pings round c).sent ≡ news ++ accusations_out s st (spreads s c).node.stored.next (unaccused s st ms) ++ pings_out s pings ++ summary_out s (due_tick s ms pings round c).node round
 unfolding due_tick
-due-sent s st c low ms pings round h none =
-    let c1 : Call = accuses_all s ms c in
+due-sent s st c low ms pings round news h first =
+    let c0 : Call = spreads s c in
+    let c1 : Call = accuses_all s ms c0 in
     let c2 : Call = pings_all s pings c1 in
     let to : Option ℕ = partner s c2.node round in
-    let out : List (ℕ × List ℕ) = accusations_out s st c.node.stored.next (unaccused s st ms) in
+    let out : List (ℕ × List ℕ) = accusations_out s st c0.node.stored.next (unaccused s st ms) in
     summary-sent s round to c2 refl
-    ∙ ap (λ xs. xs ++ summary_out s c2.node round) (pings-sent s pings c1 ∙ ap (λ xs. xs ++ pings_out s pings) (all-sent s st c low ms h ∙ ap (λ xs. xs ++ out) none))
-    ∙ ap (λ (x : Node). (out ++ pings_out s pings) ++ summary_out s x round) (sym (summary-node s round to c2))
+    ∙ ap (λ xs. xs ++ summary_out s c2.node round) (pings-sent s pings c1 ∙ ap (λ xs. xs ++ pings_out s pings) (all-sent s st c0 low ms h ∙ ap (λ xs. xs ++ out) first))
+    ∙ ap (λ (x : Node). ((news ++ out) ++ pings_out s pings) ++ summary_out s x round) (sym (summary-node s round to c2))
 
-due-told : (s : Setting) (st : State) (c : Call) (low : ℕ) (ms : List ℕ) (pings : List (ℕ × ℕ)) (round : ℕ) → Stands s st c low ms → told_that is_apart c ≡ []
-    → told_that is_apart (due_tick s ms pings round c) ≡ all_at st.moment (accusing_told s st c.node.stored.next (unaccused s st ms))
+due-told : (s : Setting) (st : State) (c : Call) (low : ℕ) (ms : List ℕ) (pings : List (ℕ × ℕ)) (round : ℕ) → Stands s st (spreads s c) low ms → told_that is_apart (spreads s c) ≡ []
+    → told_that is_apart (due_tick s ms pings round c) ≡ all_at st.moment (accusing_told s st (spreads s c).node.stored.next (unaccused s st ms))
 unfolding due_tick
 due-told s st c low ms pings round h none =
-    let c1 : Call = accuses_all s ms c in
+    let c0 : Call = spreads s c in
+    let c1 : Call = accuses_all s ms c0 in
     let c2 : Call = pings_all s pings c1 in
     summary-told is_apart s round (partner s c2.node round) c2 apart-over ∙ pings-told is_apart s pings c1 apart-over
-    ∙ all-told s st c low ms h ∙ ap (λ xs. xs ++ picked is_apart st.moment (accusing_told s st c.node.stored.next (unaccused s st ms))) none
-    ∙ all-accusing s st c.node.stored.next (unaccused s st ms)
+    ∙ all-told s st c0 low ms h ∙ ap (λ xs. xs ++ picked is_apart st.moment (accusing_told s st c0.node.stored.next (unaccused s st ms))) none
+    ∙ all-accusing s st c0.node.stored.next (unaccused s st ms)
 
 pub silent-never : (s : Setting) (n : Node) (st : State) → is_due s st ≡ false → silent_in s n st ≡ []
 silent-never s n st h = rw h refl
@@ -380,7 +424,7 @@ told-case true x y out h k = h refl
 told-case false x y out h k = k refl
 
 pub tick-sends : (s : Setting) (n : Node) → (ticked s n).sent ≡ goes_out s (at_tick s n) (state_of s (at_tick s n)) (ticked s n).node
-unfolding ticked
+unfolding ticked spread_at
 tick-sends s n =
     let p : Node = at_tick s n in
     let st : State = state_of s p in
@@ -388,14 +432,13 @@ tick-sends s n =
     let ms : List ℕ = silent_in s p st in
     let round : ℕ = round_of s st in
     let due_one : Call = due_tick s ms (pings_in s p st) round c in
-    let out : Node → List (ℕ × List ℕ) = λ x. accusations_out s st p.stored.next (unaccused s st ms) ++ pings_out s (pings_in s p st) ++ summary_out s x round in
-    sent-case (is_due s st) due_one c out
-    (λ due. due-sent s st c 0 ms (pings_in s p st) round (starts s n) (sent-probed s n)
-    ∙ ap (λ (k : Stored). accusations_out s st k.next (unaccused s st ms) ++ pings_out s (pings_in s p st) ++ summary_out s due_one.node round) (stored-probed s n))
+    let out : ℕ → Node → List (ℕ × List ℕ) = λ next x. news_out s st p ++ accusations_out s st next (unaccused s st ms) ++ pings_out s (pings_in s p st) ++ summary_out s x round in
+    sent-case (is_due s st) due_one c (out p.stored.next)
+    (λ due. due-sent s st c 0 ms (pings_in s p st) round (news_out s st p) (starts s n) (sent-spread s n) ∙ ap (λ (k : Stored). out k.next due_one.node) (stored-spread s n))
     (λ never. sent-probed s n)
 
 pub tick-tells : (s : Setting) (n : Node) → told_that is_apart (ticked s n) ≡ all_at (state_of s (at_tick s n)).moment (accusing_told s (state_of s (at_tick s n)) (at_tick s n).stored.next (to_accuse s (at_tick s n) (state_of s (at_tick s n))))
-unfolding ticked
+unfolding ticked spread_at
 tick-tells s n =
     let p : Node = at_tick s n in
     let st : State = state_of s p in
@@ -403,7 +446,7 @@ tick-tells s n =
     let ms : List ℕ = silent_in s p st in
     let news : ℕ → List ℕ → List journal.Event = λ k xs. all_at st.moment (accusing_told s st k (unaccused s st xs)) in
     told-case (is_due s st) (due_tick s ms (pings_in s p st) (round_of s st) c) c (news p.stored.next ms)
-    (λ due. due-told s st c 0 ms (pings_in s p st) (round_of s st) (starts s n) (told-probed s n) ∙ ap (λ (k : Stored). news k.next ms) (stored-probed s n))
+    (λ due. due-told s st c 0 ms (pings_in s p st) (round_of s st) (starts s n) (told-spread s n) ∙ ap (λ (k : Stored). news k.next ms) (stored-spread s n))
     (λ never. told-probed s n ∙ ap (λ xs. news p.stored.next xs) (sym (silent-never s p st never)))
 
 -- ---- a tick in which the disk fails
@@ -445,14 +488,14 @@ failing s st c low m behind h none left =
     ∙ wants-failing s (Accusation (own_accusation s here m may.ring)) (neighbours_and s m) (tells s (told.Silent m) c) left
 
 pub tick-ends : (s : Setting) (n : Node) (before : List ℕ) (m : ℕ) (behind : List ℕ) → silent_at s n ≡ before ++ m ∷ behind
-    → has_accused s (state_of s (at_tick s n)) m ≡ false → is_used_up s (accuses_all s before (probed_at s n)).node ≡ false
+    → has_accused s (state_of s (at_tick s n)) m ≡ false → is_used_up s (accuses_all s before (spread_at s n)).node ≡ false
     → StopsBehind (state_of s (at_tick s n)).moment (accusing_told s (state_of s (at_tick s n)) (at_tick s n).stored.next (unaccused s (state_of s (at_tick s n)) before) ++ told.Silent m ∷ [])
-    (accusations_out s (state_of s (at_tick s n)) (at_tick s n).stored.next (unaccused s (state_of s (at_tick s n)) before)) (ticked_until s n before m)
+    (news_out s (state_of s (at_tick s n)) (at_tick s n) ++ accusations_out s (state_of s (at_tick s n)) (at_tick s n).stored.next (unaccused s (state_of s (at_tick s n)) before)) (ticked_until s n before m)
 unfolding ticked_until silent_at
 tick-ends s n before m behind silent none left =
     let p : Node = at_tick s n in
     let st : State = state_of s p in
-    let c0 : Call = probed_at s n in
+    let c0 : Call = spread_at s n in
     let c : Call = accuses_all s before c0 in
     let whole : Stands s st c0 0 (before ++ m ∷ behind) = subst (Stands s st c0 0) silent (starts s n) in
     let front : Stands s st c0 0 before = stands-front s st c0 0 before (m ∷ behind) whole in
@@ -467,12 +510,12 @@ tick-ends s n before m behind silent none left =
           ∙ ap (λ xs. xs ++ picked is_apart (state_of s c.node).moment (told.Stopped ∷ [])) (that-tells is_apart s (told.Silent m) c)
           ∙ append_assoc (told_that is_apart c) (picked is_apart (state_of s c.node).moment (told.Silent m ∷ [])) (picked is_apart (state_of s c.node).moment (told.Stopped ∷ []))
           ∙ ap (λ k. told_that is_apart c ++ all_at k last) moment
-          ∙ ap (λ xs. xs ++ all_at st.moment last) (all-told s st c0 0 before front ∙ ap (λ xs. xs ++ picked is_apart st.moment (accusing_told s st c0.node.stored.next (unaccused s st before))) (told-probed s n) ∙ all-accusing s st c0.node.stored.next (unaccused s st before))
-          ∙ ap (λ (k : Stored). all_at st.moment (accusing_told s st k.next (unaccused s st before)) ++ all_at st.moment last) (stored-probed s n)
+          ∙ ap (λ xs. xs ++ all_at st.moment last) (all-told s st c0 0 before front ∙ ap (λ xs. xs ++ picked is_apart st.moment (accusing_told s st c0.node.stored.next (unaccused s st before))) (told-spread s n) ∙ all-accusing s st c0.node.stored.next (unaccused s st before))
+          ∙ ap (λ (k : Stored). all_at st.moment (accusing_told s st k.next (unaccused s st before)) ++ all_at st.moment last) (stored-spread s n)
           ∙ sym (all_at-append st.moment told_before last)
           ∙ ap (all_at st.moment) (sym (append_assoc told_before (told.Silent m ∷ []) (told.Stopped ∷ [])));
-      sent_so = ap (λ (x : Call). x.sent) ends ∙ all-sent s st c0 0 before front ∙ ap (λ xs. xs ++ accusations_out s st c0.node.stored.next (unaccused s st before)) (sent-probed s n)
-          ∙ ap (λ (k : Stored). accusations_out s st k.next (unaccused s st before)) (stored-probed s n);
+      sent_so = ap (λ (x : Call). x.sent) ends ∙ all-sent s st c0 0 before front ∙ ap (λ xs. xs ++ accusations_out s st c0.node.stored.next (unaccused s st before)) (sent-spread s n)
+          ∙ ap (λ (k : Stored). news_out s st p ++ accusations_out s st k.next (unaccused s st before)) (stored-spread s n);
       over = ap (λ (x : Call). x.ended) ends;
     }
 

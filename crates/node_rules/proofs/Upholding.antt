@@ -1,6 +1,6 @@
 -- What a correct node holds throughout its life: each record under its own key, verified by its author's; the newest
 -- note of each member; and a certificate of exactly those who have joined.
-use Rattle.std.proofs.Common.{◌≡◌, ℕ, Bool, true, false, not, eqb, cond, inl, inr, List, [], ◌∷◌, ◌++◌, Option, Some, None, is_some, refl, ap, sym, ◌∙◌, subst, map, eq-eqb}
+use Rattle.std.proofs.Common.{◌≡◌, ◌⊎◌, ℕ, Bool, true, false, not, eqb, cond, inl, inr, List, [], ◌∷◌, ◌++◌, Option, Some, None, is_some, refl, ap, sym, ◌∙◌, subst, map, eq-eqb}
 use Rattle.std.specs.Prelude.{◌||◌, fold, option_map}
 use Rattle.std.specs.List.{AllByRecursion}
 use Rattle.std.specs.Option.{option_and_then}
@@ -10,17 +10,19 @@ use Rattle.std.specs.declared.cmp.Ordering.TheVariants.{Less, Equal, Greater}
 use Rattle.std.proofs.lemmas.Bool.{cond_both, cases_Bool, eqb-true, false≢true, not-false}
 use Rattle.ff_ids.specs.declared.AccBody.{AccBody}
 use Rattle.ff_ids.specs.declared.NoteBody.{NoteBody}
+use Rattle.ff_ids.specs.declared.RingNo.{RingNo}
 use Rattle.ff_ids.specs.declared.Group.{Group}
 use Rattle.ff_ids.specs.declared.Fault.{Fault}
 use Rattle.ff_ids.specs.declared.Fault.TheVariants as faults
 use Rattle.ff_ids.specs.declared.summary.RecordKey.{RecordKey}
 use Rattle.ff_ids.specs.declared.summary.RecordKey.TheVariants as keys
+use Rattle.ff_ids.specs.Heals.{Heal}
 use Rattle.ff_ids.specs.Masks.{note_mask}
 use Rattle.ff_ids.specs.Notes.{note_cmp, greater_note, newest}
 use Rattle.ff_ids.specs.Views.{State, is_member}
 use Rattle.ff_ids.specs.Faults.{note_fault, fault_after, fault_beside, accusation_fault}
 use Rattle.ff_ids.proofs.FaultLemmas.{passed}
-use Rattle.ff_ids.specs.Steps.{Event, Joins, Accuses, Ticks, Stepped, joined, after_note, after_accusation, unchanged, unless_fault, step}
+use Rattle.ff_ids.specs.Steps.{Event, Joins, Accuses, Ticks, Report, Stepped, joined, after_note, after_accusation, unchanged, unless_fault, step}
 use Rattle.records.specs.declared.CertBody.{CertBody}
 use Rattle.records.specs.declared.Body.{Body}
 use Rattle.records.specs.declared.Body.TheVariants.{Certificate, Note, Accusation}
@@ -28,10 +30,10 @@ use Rattle.records.specs.declared.Record.{Record}
 use Rattle.record_set.specs.Held.{key_cmp, key_of}
 use Rattle.record_set.specs.Pages.{note_of_body}
 use Rattle.record_set.proofs.KeyLemmas.{is_key-true, is_key-same, is_key-other}
-use Rattle.node_rules.specs.Nodes.{Setting, Node, Holding, state_of, event_of, with_record, without, key_of_accusation, certificate_in, certificate_of, is_certified, public_key_of}
+use Rattle.node_rules.specs.Nodes.{Setting, Node, Holding, state_of, event_of, with_record, without, retired, moved, retires, without_removal, key_of_accusation, certificate_in, certificate_of, is_certified, public_key_of}
 use Rattle.node_rules.specs.Pages.{note_held}
 use Rattle.node_rules.specs.Calls.{Call, lives, takes}
-use Rattle.node_rules.specs.OneExchange.{IsSignedBy}
+use Rattle.node_rules.specs.OneExchange.{IsFiled, IsSignedBy}
 use Rattle.node_rules.proofs.Small.{state_of-lives, state-takes}
 use Rattle.node_rules.proofs.Growth.{held-lives, held-takes, certificate-takes}
 
@@ -117,28 +119,117 @@ pub kept-without_all : (gone : List AccBody) (held : Holding) (k : RecordKey) (r
 kept-without_all [] held k r h = h
 kept-without_all (a ∷ gone) held k r h = kept-without held (key_of_accusation a) k r (kept-without_all gone (without held (key_of_accusation a)) k r h)
 
-abbrev pub IsFiled : Holding → Type 0
-IsFiled held = (k : RecordKey) (r : Record) → held k ≡ Some r → key_of r.body ≡ k
+kept-without_removal : (b : Body) (held : Holding) (k : RecordKey) (r : Record) → without_removal b held k ≡ Some r → held k ≡ Some r
+kept-without_removal (Certificate c) held k r h = h
+kept-without_removal (Note n) held k r h = kept-without held (keys.Removal n.member) k r h
+kept-without_removal (Accusation a) held k r h = h
 
-filed-lives : (s : Setting) (e : Event) (c : Call) → IsFiled c.node.held → IsFiled (lives s e c).node.held
+-- The record was held, under this key or another.
+abbrev pub WasHeld : Holding → Record → Type 0
+WasHeld held r = (k : RecordKey) × (held k ≡ Some r)
+
+was-retired : (held : Holding) (a : AccBody) (k : RecordKey) (r : Record) → retired held a k ≡ Some r → WasHeld held r
+was-retired held a k r h =
+    elim (cases_Bool (eq_by_cmp key_cmp k (keys.Removal a.accused))) [
+      | inl same ↦ (key_of_accusation a, sym (ap (λ b. cond b (held (key_of_accusation a)) (held k)) same) ∙ h)
+      | inr apart ↦ (k, sym (ap (λ b. cond b (held (key_of_accusation a)) (held k)) apart) ∙ h)
+    ]
+
+was-moved : (gone : List AccBody) (held : Holding) (k : RecordKey) (r : Record) → fold moved held gone k ≡ Some r → WasHeld held r
+was-moved [] held k r h = (k, h)
+was-moved (a ∷ gone) held k r h =
+    let w = was-moved gone (moved held a) k r h in
+    was-retired held a w.0 r (kept-without (retired held a) (key_of_accusation a) w.0 r w.1)
+
+was-retires : (heal : Option Heal) (rep : Report) (held : Holding) (k : RecordKey) (r : Record) → retires heal rep held k ≡ Some r → WasHeld held r
+was-retires None rep held k r h = (k, h)
+was-retires (Some heal) rep held k r h = was-moved rep.expired held k r h
+
+pub was-lives : (s : Setting) (e : Event) (c : Call) (k : RecordKey) (r : Record) → (lives s e c).node.held k ≡ Some r → WasHeld c.node.held r
+unfolding lives
+was-lives s e c k r h =
+    let rep : Report = (step s.group (state_of s c.node) e).report in
+    was-retires s.heal rep c.node.held k r (kept-without_all (rep.expired ++ rep.fell) (retires s.heal rep c.node.held) k r h)
+
+pub was-takes : (s : Setting) (r : Record) (c : Call) (k : RecordKey) (x : Record) → (takes s r c).node.held k ≡ Some x → (r ≡ x) ⊎ WasHeld c.node.held x
+unfolding takes
+was-takes s r c k x h =
+    let before : Holding = (lives s (event_of s r.body) c).node.held in
+    let left : Holding = without_removal r.body before in
+    elim (cases_Bool (eq_by_cmp key_cmp k (key_of r.body))) [
+      | inl same ↦ inl (some_is r x (sym (ap (λ b. cond b (Some r) (left k)) same) ∙ h))
+      | inr apart ↦ inr (was-lives s (event_of s r.body) c k x (kept-without_removal r.body before k x (sym (ap (λ b. cond b (Some r) (left k)) apart) ∙ h)))
+    ]
+
+-- ---- each record has its place
+
+abbrev pub AreFiled : Holding → Type 0
+AreFiled held = (k : RecordKey) (r : Record) → held k ≡ Some r → IsFiled r.body k
+
+-- what has the key of an accusation accuses
+accuses-filed : (b : Body) (a : AccBody) → key_of b ≡ key_of_accusation a → IsFiled b (keys.Removal a.accused)
+accuses-filed (Certificate c) a e = cc
+accuses-filed (Note n) a e = cc
+accuses-filed (Accusation x) a e = (x, (refl, same x.accused x.ring e))
+  where
+    same : (m : ℕ) (ring : RingNo) → keys.Accusation m ring ≡ keys.Accusation a.accused a.ring → m ≡ a.accused
+    same m ring e = cc
+
+filed-retired : (held : Holding) (a : AccBody) → AreFiled held → AreFiled (retired held a)
+filed-retired held a filed =
+    λ k r h.
+    elim (cases_Bool (eq_by_cmp key_cmp k (keys.Removal a.accused))) [
+      | inl same ↦
+          let there : held (key_of_accusation a) ≡ Some r = sym (ap (λ b. cond b (held (key_of_accusation a)) (held k)) same) ∙ h in
+          subst (IsFiled r.body) (sym (is_key-true k (keys.Removal a.accused) same)) (accuses-filed r.body a (filed (key_of_accusation a) r there))
+      | inr apart ↦ filed k r (sym (ap (λ b. cond b (held (key_of_accusation a)) (held k)) apart) ∙ h)
+    ]
+
+filed-moved : (gone : List AccBody) (held : Holding) → AreFiled held → AreFiled (fold moved held gone)
+filed-moved [] held filed = filed
+filed-moved (a ∷ gone) held filed =
+    filed-moved gone (moved held a) (λ k r h. filed-retired held a filed k r (kept-without (retired held a) (key_of_accusation a) k r h))
+
+filed-retires : (heal : Option Heal) (rep : Report) (held : Holding) → AreFiled held → AreFiled (retires heal rep held)
+filed-retires None rep held filed = filed
+filed-retires (Some heal) rep held filed = filed-moved rep.expired held filed
+
+filed-lives : (s : Setting) (e : Event) (c : Call) → AreFiled c.node.held → AreFiled (lives s e c).node.held
 unfolding lives
 filed-lives s e c filed =
-    let report = (step s.group (state_of s c.node) e).report in
-    λ k r h. filed k r (kept-without_all (report.expired ++ report.fell) c.node.held k r h)
+    let rep : Report = (step s.group (state_of s c.node) e).report in
+    λ k r h. filed-retires s.heal rep c.node.held filed k r (kept-without_all (rep.expired ++ rep.fell) (retires s.heal rep c.node.held) k r h)
 
-filed-with : (r : Record) (held : Holding) → IsFiled held → IsFiled (with_record r held)
+filed-own : (b : Body) → IsFiled b (key_of b)
+filed-own (Certificate c) = refl
+filed-own (Note n) = refl
+filed-own (Accusation a) = refl
+
+filed-with : (r : Record) (held : Holding) → AreFiled held → AreFiled (with_record r held)
 filed-with r held filed =
     λ k x h.
     elim (cases_Bool (eq_by_cmp key_cmp k (key_of r.body))) [
       | inl same ↦
           let this : r ≡ x = some_is r x (sym (ap (λ b. cond b (Some r) (held k)) same) ∙ h) in
-          sym (ap (λ (y : Record). key_of y.body) this) ∙ sym (is_key-true k (key_of r.body) same)
+          subst (λ (y : Record). IsFiled y.body k) this (subst (IsFiled r.body) (sym (is_key-true k (key_of r.body) same)) (filed-own r.body))
       | inr apart ↦ filed k x (sym (ap (λ b. cond b (Some r) (held k)) apart) ∙ h)
     ]
 
-filed-takes : (s : Setting) (r : Record) (c : Call) → IsFiled c.node.held → IsFiled (takes s r c).node.held
+filed-takes : (s : Setting) (r : Record) (c : Call) → AreFiled c.node.held → AreFiled (takes s r c).node.held
 unfolding takes
-filed-takes s r c filed = filed-with r (lives s (event_of s r.body) c).node.held (filed-lives s (event_of s r.body) c filed)
+filed-takes s r c filed =
+    let before : Holding = (lives s (event_of s r.body) c).node.held in
+    filed-with r (without_removal r.body before) (λ k x h. filed-lives s (event_of s r.body) c filed k x (kept-without_removal r.body before k x h))
+
+-- a certificate is held under its own key alone
+pub certificate-filed : (b : Body) (c : CertBody) (k : RecordKey) → b ≡ Certificate c → IsFiled b k → k ≡ keys.Certificate c.member
+certificate-filed b c (keys.Certificate m) is filed = sym filed ∙ ap key_of is
+certificate-filed b c (keys.Note m) is filed = sym filed ∙ ap key_of is
+certificate-filed b c (keys.Accusation m ring) is filed = sym filed ∙ ap key_of is
+certificate-filed b c (keys.Removal m) is filed = absurd (other c filed.0 (sym is ∙ filed.1.0))
+  where
+    other : (c : CertBody) (a : AccBody) → Certificate c ≡ Accusation a → ⊥
+    other c a e = cc
 
 tell-certificate : (m n : ℕ) → eq_by_cmp key_cmp (keys.Certificate m) (keys.Certificate n) ≡ eqb n m
 tell-certificate m n =
@@ -187,7 +278,7 @@ abbrev pub AreAllowed : ℕ → List NoteBody → Type 0
 AreAllowed t notes = AllByRecursion (λ n. note_mask t n.mask.0 ≡ true) notes
 
 pub record Upholds (s : Setting) (n : Node) : Type 0 where
-  pub filed : IsFiled n.held
+  pub filed : AreFiled n.held
   pub notes : (m : ℕ) → note_held n.held m ≡ newest (state_of s n).notes m
   pub members : (m : ℕ) → is_certified n m ≡ is_member (state_of s n) m
   pub certificates : (m : ℕ) (r : Record) → n.held (keys.Certificate m) ≡ Some r → s.verifies s.authority r ≡ true
@@ -201,7 +292,7 @@ MayTake s n r (Note x) = (note_fault s.group.t (state_of s n) x ≡ None) × IsS
 MayTake s n r (Accusation a) = Unit {0}
 
 -- The places of certificates and notes are as they were, and so are notes and members.
-upholds-same : (s : Setting) (n later : Node) → IsFiled later.held → IsSame (state_of s n) (state_of s later)
+upholds-same : (s : Setting) (n later : Node) → AreFiled later.held → IsSame (state_of s n) (state_of s later)
     → ((m : ℕ) → later.held (keys.Certificate m) ≡ n.held (keys.Certificate m)) → ((m : ℕ) → later.held (keys.Note m) ≡ n.held (keys.Note m)) → Upholds s n → Upholds s later
 unfolding certificate_of
 upholds-same s n later filed same certificates notes h =

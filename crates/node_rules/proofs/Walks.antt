@@ -1,9 +1,10 @@
 -- What each call keeps of a node, where it is known what the records are that it is handed, and what it accuses.
 use Rattle.std.proofs.Common.{◌≡◌, ℕ, Bool, true, false, eqb, List, [], ◌∷◌, Option, Some, None, refl, sym, subst}
-use Rattle.std.specs.Prelude.{Result, Ok, Err}
+use Rattle.std.specs.Prelude.{◌&&◌, Result, Ok, Err}
 use Rattle.std.specs.List.{AllByRecursion}
-use Rattle.std.proofs.lemmas.Bool.{cond_both}
+use Rattle.std.proofs.lemmas.Bool.{cond_both, and_parts}
 use Rattle.ff_ids.specs.declared.AccBody.{AccBody}
+use Rattle.ff_ids.specs.declared.NoteBody.{NoteBody}
 use Rattle.ff_ids.specs.declared.Fault.{Fault}
 use Rattle.ff_ids.specs.declared.summary.Summary.{Summary}
 use Rattle.ff_ids.specs.Views.{State}
@@ -11,45 +12,67 @@ use Rattle.ff_ids.specs.Steps.{Ticks}
 use Rattle.records.specs.declared.Body.{Body}
 use Rattle.records.specs.declared.Body.TheVariants.{Certificate, Note, Accusation}
 use Rattle.records.specs.declared.Record.{Record}
+use Rattle.epoch_store.specs.declared.Stored.{Stored}
 use Rattle.datagram.specs.declared.Datagram.{Datagram}
 use Rattle.datagram.specs.declared.Datagram.TheVariants as kinds
 use Rattle.datagram.specs.Grammar.{read_of}
-use Rattle.detector.specs.Silence.{History, ponged}
+use Rattle.detector.specs.Silence.{History, ponged, ticked as probed}
 use Rattle.journal.specs.declared.event.What.TheVariants as told
 use Rattle.node_rules.specs.Nodes.{Setting, Node, state_of, neighbours, neighbours_and}
 use Rattle.node_rules.specs.Pages.{page, partner, page_number, lacking}
 use Rattle.node_rules.specs.Refusals.{refusal}
-use Rattle.node_rules.specs.Calls.{Call, begun, tells, lives, takes, signs, wants, sends, is_used_up}
-use Rattle.node_rules.specs.Deliveries.{answer_to, answers, judged, handles, handles_all, is_other, gives, replies, exchanges, pinged, hears, delivered}
-use Rattle.node_rules.specs.Ticking.{accusation_on, ring_for, has_accused, wants_accusation, accuses, accuses_all, is_due, silent_in, pings_in, probes_after, pings_all, summary_to, round_of, passed, probed_at, due_tick, ticked}
+use Rattle.node_rules.specs.Calls.{Call, begun, tells, lives, takes, signs, sends, is_used_up}
+use Rattle.node_rules.specs.Deliveries.{answer_to, answering_note, returning_note, may_rise, is_told, asked_of, asked_with, gives_note, judged, handles, handles_all, is_other, gives, replies, exchanges, pinged, hears, delivered}
+use Rattle.node_rules.specs.Ticking.{accusation_on, ring_for, has_accused, wants_accusation, accuses, accuses_all, fresh, spreads_all, spreads, is_due, begins_span, watched_by, silent_in, pings_in, pings_all, summary_to, round_of, passed, probed_at, due_tick, ticked}
 use Rattle.node_rules.specs.Leaving.{leaving, leaves, left}
 use Rattle.node_rules.specs.Lives.{Input, Delivers, Ticks as Tick, Leaves, call_of, after_calls}
-use Rattle.node_rules.proofs.Small.{node-sends}
+use Rattle.node_rules.proofs.Small.{node-sends, node-sends_to_all, stored-takes}
+use Rattle.node_rules.proofs.Carrying.{AsksBack}
 use Rattle.node_rules.proofs.Exchanges.{node-wants}
 
 pub record KeepsNode (s : Setting) (Given : Record → Type 0) (P : Node → Type 0) : Type 0 where
   pub taken : (r : Record) (c : Call) → Given r → refusal s c.node r ≡ None → P c.node → P (takes s r c).node
-  pub answered : (r : Record) (a : AccBody) (c : Call) → Given r → refusal s c.node r ≡ None → r.body ≡ Accusation a → eqb a.accused s.me ≡ true → is_used_up s (takes s r c).node ≡ false
-      → P c.node → P (signs s (answer_to s (takes s r c).node.stored a) (takes s r c)).node
+  pub answered : (r : Record) (a : AccBody) (c : Call) → Given r → refusal s c.node r ≡ None → r.body ≡ Accusation a → eqb a.accused s.me ≡ true → may_rise s.heal c.node ≡ true
+      → is_used_up s (takes s r c).node ≡ false → P c.node → P (signs s (answer_to s (takes s r c).node.stored a) (takes s r c)).node
+  pub returned : (r : Record) (a : AccBody) (c : Call) → AsksBack s c.node r a → may_rise s.heal c.node ≡ true → is_used_up s c.node ≡ false → P c.node
+      → P (signs s (Note (returning_note s c.node.stored)) c).node
   pub accused : (m ring : ℕ) (c : Call) → ring_for s (state_of s c.node) m ≡ Some ring → is_used_up s c.node ≡ false → P c.node → P (signs s (accusation_on s (state_of s c.node) m ring) c).node
   pub departed : (c : Call) → is_used_up s c.node ≡ false → P c.node → P (signs s (leaving s c.node.stored) c).node
   pub passed : (c : Call) → P c.node → P (lives s Ticks c).node
   pub probed : (h : History) (c : Call) → P c.node → P (record c.node { probes = h })
+  pub spanned : (c : Call) → P c.node → P (record c.node { since = c.node.stored.epoch })
+  pub spread : (c : Call) → P c.node → P (record c.node { news = [] })
 
 -- ---- records
 
-walk-answers : (s : Setting) (Given : Record → Type 0) (P : Node → Type 0) → KeepsNode s Given P → (r : Record) (b : Body) (c : Call) → r.body ≡ b → Given r → refusal s c.node r ≡ None → P c.node → P (answers true s b (takes s r c)).node
-walk-answers s Given P k r (Certificate x) c is given fine h = k.taken r c given fine h
-walk-answers s Given P k r (Note x) c is given fine h = k.taken r c given fine h
-walk-answers s Given P k r (Accusation a) c is given fine h =
+walk-accepted : (s : Setting) (Given : Record → Type 0) (P : Node → Type 0) → KeepsNode s Given P → (r : Record) (b : Body) (c : Call) → r.body ≡ b → Given r → refusal s c.node r ≡ None → P c.node
+    → P (gives_note true s (asked_with s c.node None b r) (takes s r c)).node
+walk-accepted s Given P k r (Certificate x) c is given fine h = k.taken r c given fine h
+walk-accepted s Given P k r (Note x) c is given fine h = k.taken r c given fine h
+walk-accepted s Given P k r (Accusation a) c is given fine h =
     let c1 : Call = takes s r c in
-    cond_both (eqb a.accused s.me) (wants true s (answer_to s c1.node.stored a) (neighbours s) c1) c1 (λ x. P x.node)
-    (λ yes. node-wants true s (answer_to s c1.node.stored a) (neighbours s) c1 P (k.taken r c given fine h) (λ left. k.answered r a c given fine is yes left h))
+    let kept : c1.node.stored ≡ c.node.stored = stored-takes s r c in
+    cond_both (eqb a.accused s.me && may_rise s.heal c.node) (Some (answering_note s c.node.stored a)) None (λ note. P (gives_note true s note c1).node)
+    (λ yes. let both = and_parts _ _ yes in node-wants true s (answer_to s c.node.stored a) (neighbours s) c1 P (k.taken r c given fine h)
+    (λ left. subst (λ (x : Stored). P (signs s (answer_to s x a) c1).node) kept (k.answered r a c given fine is both.0 both.1 left h)))
     (λ no. k.taken r c given fine h)
 
+-- A record that is refused leaves the node, but for the note by which it comes back.
+walk-refused : (s : Setting) (Given : Record → Type 0) (P : Node → Type 0) → KeepsNode s Given P → (fault : Fault) (r : Record) (b : Body) (c : Call) → refusal s c.node r ≡ Some fault → r.body ≡ b → P c.node
+    → P (gives_note true s (asked_with s c.node (Some fault) b r) c).node
+walk-refused s Given P k fault r (Certificate x) c e is h = h
+walk-refused s Given P k fault r (Note x) c e is h = h
+walk-refused s Given P k fault r (Accusation a) c e is h =
+    let note : NoteBody = returning_note s c.node.stored in
+    cond_both (eqb a.accused s.me && may_rise s.heal c.node) (asked_of s c.node (Some fault) a r) None (λ o. P (gives_note true s o c).node)
+    (λ yes. let both = and_parts _ _ yes in cond_both (is_told s c.node fault a r) (Some note) None (λ o. P (gives_note true s o c).node)
+    (λ heard. node-wants true s (Note note) (neighbours s) c P h (λ left. k.returned r a c (record { fault = fault; refused = e; is = is; me = both.0; told = heard }) both.1 left h))
+    (λ apart. h))
+    (λ no. h)
+
 walk-judged : (s : Setting) (Given : Record → Type 0) (P : Node → Type 0) → KeepsNode s Given P → (f : Option Fault) (r : Record) (c : Call) → refusal s c.node r ≡ f → Given r → P c.node → P (judged true s f r c).node
-walk-judged s Given P k (Some fault) r c e given h = h
-walk-judged s Given P k None r c e given h = walk-answers s Given P k r r.body (tells s (told.Took r.body None) c) refl given e h
+walk-judged s Given P k (Some fault) r c e given h = walk-refused s Given P k fault r r.body (tells s (told.Took r.body (Some fault)) c) e refl h
+walk-judged s Given P k None r c e given h = walk-accepted s Given P k r r.body (tells s (told.Took r.body None) c) refl given e h
 
 walk-handles : (s : Setting) (Given : Record → Type 0) (P : Node → Type 0) → KeepsNode s Given P → (c : Call) (r : Record) → Given r → P c.node → P (handles true s c r).node
 unfolding handles
@@ -75,9 +98,9 @@ replied-keeps s P to false number c h = sent-keeps s P (kinds.Summary s.me true 
 pub exchanged-keeps : (s : Setting) (P : Node → Type 0) (from : ℕ) (flag : Bool) (theirs : Summary) (c : Call) → P c.node → P (exchanges s from flag theirs c).node
 exchanged-keeps s P from flag theirs c h =
     let c1 : Call = tells s (told.Summary from theirs.page flag) c in
-    let c2 : Call = gives s from (lacking c.node theirs) c1 in
+    let c2 : Call = gives s from (lacking c.node from theirs) c1 in
     cond_both (is_other s c.node from) (replies s from flag theirs.page c2) c1 (λ x. P x.node)
-    (λ yes. replied-keeps s P from flag theirs.page c2 (given-keeps s P from (lacking c.node theirs) c1 h))
+    (λ yes. replied-keeps s P from flag theirs.page c2 (given-keeps s P from (lacking c.node from theirs) c1 h))
     (λ no. h)
 
 pub pinged-keeps : (s : Setting) (P : Node → Type 0) (from nonce : ℕ) (c : Call) → P c.node → P (pinged s from nonce c).node
@@ -119,6 +142,14 @@ walk-accuses_all : (s : Setting) (Given : Record → Type 0) (P : Node → Type 
 walk-accuses_all s Given P k [] c h = h
 walk-accuses_all s Given P k (m ∷ silent) c h = walk-accuses_all s Given P k silent (accuses true s c m) (walk-accuses s Given P k c m h)
 
+spread-all : (s : Setting) (P : Node → Type 0) (records : List Record) (c : Call) → P c.node → P (spreads_all s records c).node
+spread-all s P [] c h = h
+spread-all s P (r ∷ records) c h = subst P (sym (node-sends_to_all s (neighbours s (state_of s c.node)) (kinds.Records s.me (r ∷ records)) c)) h
+
+pub spreads-keep : (s : Setting) (P : Node → Type 0) → ((n : Node) → P n → P (record n { news = [] })) → (c : Call) → P c.node → P (spreads s c).node
+unfolding spreads
+spreads-keep s P without c h = without (spreads_all s (fresh c.node) c).node (spread-all s P (fresh c.node) c h)
+
 pub pings-keep : (s : Setting) (P : Node → Type 0) (sent : List (ℕ × ℕ)) (c : Call) → P c.node → P (pings_all s sent c).node
 pings-keep s P [] c h = h
 pings-keep s P (p ∷ sent) c h = pings-keep s P sent (sends s (kinds.Ping s.me p.1) c p.0) (sent-keeps s P (kinds.Ping s.me p.1) c p.0 h)
@@ -130,15 +161,19 @@ summary-keeps s P round (Some to) c h = sent-keeps s P (kinds.Summary s.me false
 walk-due : (s : Setting) (Given : Record → Type 0) (P : Node → Type 0) → KeepsNode s Given P → (accused : List ℕ) (sent : List (ℕ × ℕ)) (round : ℕ) (c : Call) → P c.node → P (due_tick s accused sent round c).node
 unfolding due_tick
 walk-due s Given P k accused sent round c h =
-    let c1 : Call = accuses_all s accused c in
+    let c0 : Call = spreads s c in
+    let c1 : Call = accuses_all s accused c0 in
     let c2 : Call = pings_all s sent c1 in
-    summary-keeps s P round (partner s c2.node round) c2 (pings-keep s P sent c1 (walk-accuses_all s Given P k accused c h))
+    summary-keeps s P round (partner s c2.node round) c2 (pings-keep s P sent c1 (walk-accuses_all s Given P k accused c0 (spreads-keep s P (λ n h. k.spread (begun n) h) c h)))
 
 walk-probed_at : (s : Setting) (Given : Record → Type 0) (P : Node → Type 0) → KeepsNode s Given P → (n : Node) → P n → P (probed_at s n).node
 unfolding probed_at passed
 walk-probed_at s Given P k n h =
     let c : Call = lives s Ticks (begun n) in
-    k.probed (probes_after s c.node (state_of s c.node)).probes c (k.passed (begun n) h)
+    let st : State = state_of s c.node in
+    let later : Node = record c.node { probes = probed c.node.probes (is_due s st) (watched_by s st) } in
+    let h1 : P later = k.probed later.probes c (k.passed (begun n) h) in
+    cond_both (begins_span s st) c.node.stored.epoch c.node.since (λ since. P (record later { since = since })) (λ yes. k.spanned (begun later) h1) (λ no. h1)
 
 walk-ticked : (s : Setting) (Given : Record → Type 0) (P : Node → Type 0) → KeepsNode s Given P → (n : Node) → P n → P (ticked s n).node
 unfolding ticked

@@ -6,6 +6,7 @@ use Rattle.std.specs.Option.{option_and_then, option_map_or}
 use Rattle.std.specs.Ordering.{is_lt}
 use Rattle.std.proofs.lemmas.Bool.{cases_Bool, eqb-true, false≢true, and_from}
 use Rattle.std.proofs.lemmas.Bool.Decides.{nat_tests}
+use Rattle.std.proofs.lemmas.List.{append_assoc}
 use Rattle.std.proofs.lemmas.List.Elements.{filter_map-append}
 use Rattle.std.proofs.lemmas.List.Sums.{fold-append}
 use Rattle.ff_ids.specs.declared.TheConstants.{PAGE_MEMBERS}
@@ -269,38 +270,42 @@ brings-note a b own other_own n earlier c d note records m is w all i h certifie
     (λ x r known. has-follows note.member (state_of b x.node).notes (state_of b (handles true b x r).node).notes note ((follows-handles b x r).notes note.member) known)
     records all i d (h, certified)
 
--- the parts of what is lacking, one behind the other
-in-parts : (s : Setting) (held : Holding) (mine theirs : List SummaryEntry) (c : Call) → handles_all s (filter_map held (differ mine theirs)) c
-    ≡ handles_all s (filter_map held (accusations_lacking mine theirs)) (handles_all s (filter_map held (notes_lacking mine theirs)) (handles_all s (filter_map held (certificates_lacking mine theirs)) c))
-in-parts s held mine theirs c =
+-- the parts of what is lacking, one behind the other, and more behind them
+in-parts : (s : Setting) (held : Holding) (mine theirs : List SummaryEntry) (more : List RecordKey) (c : Call) → handles_all s (filter_map held (differ mine theirs ++ more)) c
+    ≡ handles_all s (filter_map held (accusations_lacking mine theirs ++ more)) (handles_all s (filter_map held (notes_lacking mine theirs)) (handles_all s (filter_map held (certificates_lacking mine theirs)) c))
+in-parts s held mine theirs more c =
     let cs : List RecordKey = certificates_lacking mine theirs in
     let ns : List RecordKey = notes_lacking mine theirs in
     let accusations : List RecordKey = accusations_lacking mine theirs in
-    ap (λ rs. handles_all s rs c) (filter_map-append held cs (ns ++ accusations) ∙ ap (λ rs. filter_map held cs ++ rs) (filter_map-append held ns accusations))
-    ∙ fold-append (handles true s) c (filter_map held cs) (filter_map held ns ++ filter_map held accusations)
-    ∙ fold-append (handles true s) (handles_all s (filter_map held cs) c) (filter_map held ns) (filter_map held accusations)
+    let last : List RecordKey = accusations ++ more in
+    let apart : differ mine theirs ++ more ≡ cs ++ (ns ++ last) = append_assoc cs (ns ++ accusations) more ∙ ap (λ xs. cs ++ xs) (append_assoc ns accusations more) in
+    ap (λ ks. handles_all s (filter_map held ks) c) apart
+    ∙ ap (λ rs. handles_all s rs c) (filter_map-append held cs (ns ++ last) ∙ ap (λ rs. filter_map held cs ++ rs) (filter_map-append held ns last))
+    ∙ fold-append (handles true s) c (filter_map held cs) (filter_map held ns ++ filter_map held last)
+    ∙ fold-append (handles true s) (handles_all s (filter_map held cs) c) (filter_map held ns) (filter_map held last)
 
 page-number : (n : Node) (number : ℕ) → (page n number).page ≡ number
 unfolding page
 page-number n number = refl
 
 -- Of each member of the page a note is known that is at least the one's.
-pub known-page : (a b : Setting) (own other_own : Key) (n earlier : Node) (number : ℕ) (c : Call) (note : NoteBody) → Meets a b own other_own n earlier c
+pub known-page : (a b : Setting) (own other_own : Key) (n earlier : Node) (from number : ℕ) (c : Call) (note : NoteBody) → Meets a b own other_own n earlier c
     → page_of_member note.member ≡ number → newest (state_of a n).notes note.member ≡ Some note → 0 < note.epoch
-    → HasAtLeast (state_of b (handles_all b (all_lacking n (page earlier number)) c).node).notes note.member note
-known-page a b own other_own n earlier number c note m of is some =
+    → HasAtLeast (state_of b (handles_all b (all_lacking n from (page earlier number)) c).node).notes note.member note
+known-page a b own other_own n earlier from number c note m of is some =
     let k : ℕ = note.member in
     let theirs : List SummaryEntry = (page earlier number).listed in
     let mine : List SummaryEntry = (page n number).listed in
     let here : SummaryEntry = entry_held n.held k in
     let cs : List Record = filter_map n.held (certificates_lacking mine theirs) in
     let ns : List Record = filter_map n.held (notes_lacking mine theirs) in
-    let accusations : List Record = filter_map n.held (accusations_lacking mine theirs) in
+    let removal : List RecordKey = keys.Removal from ∷ [] in
+    let accusations : List Record = filter_map n.held (accusations_lacking mine theirs ++ removal) in
     let c1 : Call = handles_all b cs c in
     let c2 : Call = handles_all b ns c1 in
     let c3 : Call = handles_all b accusations c2 in
-    let paged : all_lacking n (page earlier number) ≡ filter_map n.held (differ mine theirs) = ap (λ p. filter_map n.held (differ (page n p).listed theirs)) (page-number earlier number) in
-    let whole : handles_all b (all_lacking n (page earlier number)) c ≡ c3 = ap (λ rs. handles_all b rs c) paged ∙ in-parts b n.held mine theirs c in
+    let paged : all_lacking n from (page earlier number) ≡ filter_map n.held (differ mine theirs ++ removal) = ap (λ p. filter_map n.held (differ (page n p).listed theirs ++ removal)) (page-number earlier number) in
+    let whole : handles_all b (all_lacking n from (page earlier number)) c ≡ c3 = ap (λ rs. handles_all b rs c) paged ∙ in-parts b n.held mine theirs removal c in
     let w : Author a n note = author a own n note m.theirs is in
     let held : note_held n.held k ≡ Some note = m.theirs.upholds.notes k ∙ is in
     let entry : In mine here = listed n number k (ap is_some w.rec.place) of in
@@ -321,7 +326,7 @@ known-page a b own other_own n earlier number c note m of is some =
       | less there found certified behind ↦
           noted (certified-kept b c.node c1.node k (follows-handles_all b cs c) (certified-kept b earlier c.node k m.follows certified)) (ap (λ o. is_behind o here) found ∙ behind)
       | enough known ↦
-          let at : Follows b c.node c3.node = subst (λ (x : Call). Follows b c.node x.node) whole (follows-handles_all b (all_lacking n (page earlier number)) c) in
+          let at : Follows b c.node c3.node = subst (λ (x : Call). Follows b c.node x.node) whole (follows-handles_all b (all_lacking n from (page earlier number)) c) in
           has-follows k (state_of b c.node).notes (state_of b c3.node).notes note (at.notes k) (has-follows k (state_of b earlier).notes (state_of b c.node).notes note (m.follows.notes k) known)
     ] in
     subst (λ (x : Call). HasAtLeast (state_of b x.node).notes k note) (sym whole) last

@@ -17,7 +17,7 @@ use Rattle.node_rules.specs.Pages.{page, lacking, partner, page_number}
 use Rattle.node_rules.specs.Calls.{Call, lives, sends, takes, signs, signs_and_sends, wants}
 use Rattle.node_rules.specs.Deliveries.{handles, delivered}
 use Rattle.node_rules.specs.Starting.{started}
-use Rattle.node_rules.specs.Ticking.{due_tick, passed, probed_at, ticked}
+use Rattle.node_rules.specs.Ticking.{due_tick, fresh, spreads, passed, probed_at, ticked}
 use Rattle.node_rules.proofs.Rows.{acc, accused, at0, certificate, given, new_store, note, own, seed, setting}
 
 -- ---- rounds and pages
@@ -53,7 +53,7 @@ rounds : ((ticked slow (behind 0)).sent ≡ [])
     × ((ticked slow (behind 7)).sent ≡ (40, second_page 0) ∷ [])
     × ((ticked slow (behind 11)).sent ≡ (40, second_page 0) ∷ [])
     × ((ticked slow (behind 13)).sent ≡ (2, first_page) ∷ [])
-unfolding all_numbers in_view_by started signs takes lives state_of sends certificate_of due_tick passed probed_at ticked page partner page_number bits_where head_bytes entry_bytes summary_bytes
+unfolding all_numbers in_view_by started signs takes lives state_of sends certificate_of due_tick fresh spreads passed probed_at ticked page partner page_number bits_where head_bytes entry_bytes summary_bytes
 rounds = (refl, refl, refl, refl, refl, refl, refl, refl)
 
 -- The certificate of 40 in a datagram of node 1.

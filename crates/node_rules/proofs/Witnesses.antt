@@ -1,8 +1,8 @@
 -- Each event of a life comes of a record that the life has come by.
 use Rattle.std.proofs.Common.{◌≡◌, ℕ, ◌+◌, ◌≤◌, ◌<◌, Bool, true, false, eqb, inl, inr, List, [], ◌∷◌, ◌++◌, Option, Some, None, refl, ap, sym, ◌∙◌, subst}
-use Rattle.std.specs.Prelude.{Result, Ok, Err, filter_map, option_map}
+use Rattle.std.specs.Prelude.{◌&&◌, Result, Ok, Err, filter_map, option_map}
 use Rattle.std.specs.List.{AllByRecursion, list_any}
-use Rattle.std.proofs.lemmas.Bool.{cond_both}
+use Rattle.std.proofs.lemmas.Bool.{cond_both, and_parts}
 use Rattle.ff_ids.specs.declared.AccBody.{AccBody}
 use Rattle.ff_ids.specs.declared.NoteBody.{NoteBody}
 use Rattle.ff_ids.specs.declared.Fault.{Fault}
@@ -20,7 +20,7 @@ use Rattle.epoch_store.specs.declared.Stored.{Stored}
 use Rattle.datagram.specs.declared.Datagram.{Datagram}
 use Rattle.datagram.specs.declared.Datagram.TheVariants as kinds
 use Rattle.datagram.specs.Grammar.{read_of}
-use Rattle.detector.specs.Silence.{History, counts, ponged}
+use Rattle.detector.specs.Silence.{History, counts, ponged, ticked as probed}
 use Rattle.journal.specs.declared.event.Event as journal
 use Rattle.journal.specs.declared.event.What as whats
 use Rattle.journal.specs.declared.event.What.TheVariants as told
@@ -29,8 +29,8 @@ use Rattle.node_rules.specs.Nodes.{Setting, Node, state_of, event_of, certificat
 use Rattle.node_rules.specs.Pages.{page, partner, page_number, lacking}
 use Rattle.node_rules.specs.Refusals.{refusal, refusal_of}
 use Rattle.node_rules.specs.Calls.{Call, begun, tells, lives, takes, spends, signs, signs_and_sends, wants, stops, sends, sends_to_all, is_used_up, own_record}
-use Rattle.node_rules.specs.Deliveries.{answer_to, answers, judged, handles, handles_all, is_other, gives, replies, exchanges, pinged, ponged_by, hears, delivered}
-use Rattle.node_rules.specs.Ticking.{accusation_on, ring_for, has_accused, wants_accusation, accuses, accuses_all, is_due, silent_in, pings_in, probes_after, pings_all, summary_to, round_of, passed, probed_at, due_tick, ticked}
+use Rattle.node_rules.specs.Deliveries.{answer_to, answering_note, returning_note, may_rise, is_told, asked_of, asked_with, gives_note, judged, handles, handles_all, is_other, gives, replies, exchanges, pinged, ponged_by, hears, delivered}
+use Rattle.node_rules.specs.Ticking.{accusation_on, ring_for, has_accused, wants_accusation, accuses, accuses_all, fresh, spreads_all, spreads, is_due, begins_span, watched_by, silent_in, pings_in, pings_all, summary_to, round_of, passed, probed_at, due_tick, ticked}
 use Rattle.node_rules.specs.Replies.{first_mask}
 use Rattle.node_rules.specs.Starting.{blank, opened, started}
 use Rattle.node_rules.specs.Leaving.{leaving, leaves, left}
@@ -38,7 +38,9 @@ use Rattle.node_rules.specs.Lives.{is_certificate_for, Input, Delivers, Ticks, c
 use Rattle.node_rules.specs.Vouching.{IsVouchedAmong, IsVouched, OwnSignaturesVerify, IsCertifiedBy}
 use Rattle.node_rules.specs.Verdicts.{records_in, when_handled}
 use Rattle.node_rules.specs.Known.{made_by, signed_in, accepted_of, accepted_in, gathered}
+use Rattle.node_rules.proofs.Small.{stored-takes}
 use Rattle.node_rules.proofs.OwnNote.{option_or-none}
+use Rattle.node_rules.proofs.Carrying.{AsksBack}
 use Rattle.node_rules.proofs.Accusations.{own_accusation}
 use Rattle.node_rules.proofs.Handling.{node-handles}
 use Rattle.node_rules.proofs.OwnKey.{stored-opened}
@@ -131,6 +133,16 @@ vouched-probes : (s : Setting) (own : Key) (base : List Record) → Signs s own 
 vouched-probes s own base k p c h =
     let d : Call = record c { node = record c.node { probes = p } } in
     vouched-same s own base c d (grown-again s c d refl) ((following s c.node).probed p c (follows-itself s c.node)) ((keeping-all s own k.some k.sign).probed p c h.all) refl h
+
+vouched-spanned : (s : Setting) (own : Key) (base : List Record) → Signs s own → (c : Call) → Vouched s own base c → Vouched s own base (record c { node = record c.node { since = c.node.stored.epoch } })
+vouched-spanned s own base k c h =
+    let d : Call = record c { node = record c.node { since = c.node.stored.epoch } } in
+    vouched-same s own base c d (grown-again s c d refl) ((following s c.node).spanned c (follows-itself s c.node)) ((keeping-all s own k.some k.sign).spanned c h.all) refl h
+
+vouched-spread : (s : Setting) (own : Key) (base : List Record) → Signs s own → (c : Call) → Vouched s own base c → Vouched s own base (record c { node = record c.node { news = [] } })
+vouched-spread s own base k c h =
+    let d : Call = record c { node = record c.node { news = [] } } in
+    vouched-same s own base c d (grown-again s c d refl) ((following s c.node).spread c (follows-itself s c.node)) ((keeping-all s own k.some k.sign).spread c h.all) refl h
 
 lived-lives : (s : Setting) (e : Event) (c : Call) → (lives s e c).node.lived ≡ c.node.lived ++ e ∷ []
 unfolding lives
@@ -233,19 +245,47 @@ own-answer : (s : Setting) (stored : Stored) (a : AccBody) → IsOwnBody s (answ
 unfolding IsOwnBody
 own-answer s stored a = refl
 
-vouched-accepted : (s : Setting) (own : Key) (base : List Record) → Signs s own → (r : Record) (b : Body) (c : Call) → r.body ≡ b → refusal s c.node r ≡ None → IsIn base s c r → Vouched s own base c → Vouched s own base (answers true s b (takes s r c))
+own-return : (s : Setting) (stored : Stored) → IsOwnBody s (Note (returning_note s stored))
+unfolding IsOwnBody
+own-return s stored = refl
+
+vouched-accepted : (s : Setting) (own : Key) (base : List Record) → Signs s own → (r : Record) (b : Body) (c : Call) → r.body ≡ b → refusal s c.node r ≡ None → IsIn base s c r → Vouched s own base c
+    → Vouched s own base (gives_note true s (asked_with s c.node None b r) (takes s r c))
 vouched-accepted s own base k r (Certificate x) c is fine here h = vouched-takes s own base k r c fine here h
 vouched-accepted s own base k r (Note x) c is fine here h = vouched-takes s own base k r c fine here h
 vouched-accepted s own base k r (Accusation a) c is fine here h =
     let c1 : Call = takes s r c in
     let h1 : Vouched s own base c1 = vouched-takes s own base k r c fine here h in
-    let b : Body = answer_to s c1.node.stored a in
-    cond_both (eqb a.accused s.me) (wants true s b (neighbours s) c1) c1 (Vouched s own base)
-    (λ me. vouched-wants s own base k b (neighbours s) c1 (λ left. vouched-signs s own base k b c1 (own-answer s c1.node.stored a) left ((keeping-all s own k.some k.sign).answered r a c fine is me left h.all) h1) h1)
+    let kept : c1.node.stored ≡ c.node.stored = stored-takes s r c in
+    cond_both (eqb a.accused s.me && may_rise s.heal c.node) (Some (answering_note s c.node.stored a)) None (λ o. Vouched s own base (gives_note true s o c1))
+    (λ yes.
+    let both = and_parts _ _ yes in
+    vouched-wants s own base k (answer_to s c.node.stored a) (neighbours s) c1
+    (λ left. subst (λ (x : Stored). Vouched s own base (signs s (answer_to s x a) c1)) kept
+    (vouched-signs s own base k (answer_to s c1.node.stored a) c1 (own-answer s c1.node.stored a) left ((keeping-all s own k.some k.sign).answered r a c fine is both.0 both.1 left h.all) h1)) h1)
     (λ other. h1)
 
+vouched-refused : (s : Setting) (own : Key) (base : List Record) → Signs s own → (fault : Fault) (r : Record) (b : Body) (c : Call) → r.body ≡ b → refusal s c.node r ≡ Some fault → Vouched s own base c
+    → Vouched s own base (gives_note true s (asked_with s c.node (Some fault) b r) c)
+vouched-refused s own base k fault r (Certificate x) c is e h = h
+vouched-refused s own base k fault r (Note x) c is e h = h
+vouched-refused s own base k fault r (Accusation a) c is e h =
+    let note : NoteBody = returning_note s c.node.stored in
+    cond_both (eqb a.accused s.me && may_rise s.heal c.node) (asked_of s c.node (Some fault) a r) None (λ o. Vouched s own base (gives_note true s o c))
+    (λ yes.
+    let both = and_parts _ _ yes in
+    cond_both (is_told s c.node fault a r) (Some note) None (λ o. Vouched s own base (gives_note true s o c))
+    (λ heard.
+    let asks : AsksBack s c.node r a = record { fault = fault; refused = e; is = is; me = both.0; told = heard } in
+    vouched-wants s own base k (Note note) (neighbours s) c
+    (λ left. vouched-signs s own base k (Note note) c (own-return s c.node.stored) left ((keeping-all s own k.some k.sign).returned r a c asks both.1 left h.all) h) h)
+    (λ apart. h))
+    (λ other. h)
+
 vouched-judged : (s : Setting) (own : Key) (base : List Record) → Signs s own → (f : Option Fault) (r : Record) (c : Call) → refusal s c.node r ≡ f → (f ≡ None → In base r) → Vouched s own base c → Vouched s own base (judged true s f r c)
-vouched-judged s own base k (Some f) r c e here h = vouched-tells s own base (told.Took r.body (Some f)) c h
+vouched-judged s own base k (Some f) r c e here h =
+    let c1 : Call = tells s (told.Took r.body (Some f)) c in
+    vouched-refused s own base k f r r.body c1 refl e (vouched-tells s own base (told.Took r.body (Some f)) c h)
 vouched-judged s own base k None r c e here h = vouched-accepted s own base k r r.body (tells s (told.Took r.body None) c) refl e (inl (here refl)) (vouched-tells s own base (told.Took r.body None) c h)
 
 vouched-handles : (s : Setting) (own : Key) (base : List Record) → Signs s own → (c : Call) (r : Record) → (refusal s c.node r ≡ None → In base r) → Vouched s own base c → Vouched s own base (handles true s c r)
@@ -285,8 +325,8 @@ vouched-exchanges : (s : Setting) (own : Key) (base : List Record) → Signs s o
 vouched-exchanges s own base k from flag theirs c h =
     let c1 : Call = tells s (told.Summary from theirs.page flag) c in
     let h1 : Vouched s own base c1 = vouched-tells s own base (told.Summary from theirs.page flag) c h in
-    let c2 : Call = gives s from (lacking c.node theirs) c1 in
-    cond_both (is_other s c.node from) (replies s from flag theirs.page c2) c1 (Vouched s own base) (λ yes. vouched-replies s own base k from flag theirs.page c2 (vouched-gives s own base k from (lacking c.node theirs) c1 h1)) (λ no. h1)
+    let c2 : Call = gives s from (lacking c.node from theirs) c1 in
+    cond_both (is_other s c.node from) (replies s from flag theirs.page c2) c1 (Vouched s own base) (λ yes. vouched-replies s own base k from flag theirs.page c2 (vouched-gives s own base k from (lacking c.node from theirs) c1 h1)) (λ no. h1)
 
 vouched-hears : (s : Setting) (own : Key) (base : List Record) → Signs s own → (d : Result Datagram ℕ) (c : Call) → ((r : Record) → In (accepted_of s c.node (records_in d)) r → In base r) → Vouched s own base c → Vouched s own base (hears s d c)
 vouched-hears s own base k (Err place) c all h = vouched-tells s own base (told.BadForm place) c h
@@ -321,6 +361,14 @@ vouched-accuses_all : (s : Setting) (own : Key) (base : List Record) → Signs s
 vouched-accuses_all s own base k [] c h = h
 vouched-accuses_all s own base k (m ∷ silent) c h = vouched-accuses_all s own base k silent (accuses true s c m) (vouched-accuses s own base k c m h)
 
+vouched-spreads_all : (s : Setting) (own : Key) (base : List Record) → Signs s own → (records : List Record) (c : Call) → Vouched s own base c → Vouched s own base (spreads_all s records c)
+vouched-spreads_all s own base k [] c h = h
+vouched-spreads_all s own base k (r ∷ records) c h = vouched-sends_to_all s own base k (neighbours s (state_of s c.node)) (kinds.Records s.me (r ∷ records)) c h
+
+vouched-spreads : (s : Setting) (own : Key) (base : List Record) → Signs s own → (c : Call) → Vouched s own base c → Vouched s own base (spreads s c)
+unfolding spreads
+vouched-spreads s own base k c h = vouched-spread s own base k (spreads_all s (fresh c.node) c) (vouched-spreads_all s own base k (fresh c.node) c h)
+
 vouched-pings_all : (s : Setting) (own : Key) (base : List Record) → Signs s own → (pings : List (ℕ × ℕ)) (c : Call) → Vouched s own base c → Vouched s own base (pings_all s pings c)
 vouched-pings_all s own base k [] c h = h
 vouched-pings_all s own base k (p ∷ pings) c h = vouched-pings_all s own base k pings (sends s (kinds.Ping s.me p.1) c p.0) (vouched-sends s own base k (kinds.Ping s.me p.1) c p.0 h)
@@ -333,14 +381,19 @@ vouched-probed : (s : Setting) (own : Key) (base : List Record) → Signs s own 
 unfolding probed_at passed
 vouched-probed s own base k n h =
     let c : Call = lives s Passes (begun n) in
-    vouched-probes s own base k (probes_after s c.node (state_of s c.node)).probes c (vouched-passes s own base k (begun n) h)
+    let st : State = state_of s c.node in
+    let probes : History = probed c.node.probes (is_due s st) (watched_by s st) in
+    let c1 : Call = record c { node = record c.node { probes = probes } } in
+    let h1 : Vouched s own base c1 = vouched-probes s own base k probes c (vouched-passes s own base k (begun n) h) in
+    cond_both (begins_span s st) c.node.stored.epoch c.node.since (λ since. Vouched s own base (record c1 { node = record c1.node { since = since } })) (λ yes. vouched-spanned s own base k c1 h1) (λ no. h1)
 
 vouched-due : (s : Setting) (own : Key) (base : List Record) → Signs s own → (accused : List ℕ) (pings : List (ℕ × ℕ)) (round : ℕ) (c : Call) → Vouched s own base c → Vouched s own base (due_tick s accused pings round c)
 unfolding due_tick
 vouched-due s own base k accused pings round c h =
-    let c1 : Call = accuses_all s accused c in
+    let c0 : Call = spreads s c in
+    let c1 : Call = accuses_all s accused c0 in
     let c2 : Call = pings_all s pings c1 in
-    vouched-summary s own base k round (partner s c2.node round) c2 (vouched-pings_all s own base k pings c1 (vouched-accuses_all s own base k accused c h))
+    vouched-summary s own base k round (partner s c2.node round) c2 (vouched-pings_all s own base k pings c1 (vouched-accuses_all s own base k accused c0 (vouched-spreads s own base k c h)))
 
 vouched-ticked : (s : Setting) (own : Key) (base : List Record) → Signs s own → (n : Node) → Vouched s own base (begun n) → Vouched s own base (ticked s n)
 unfolding ticked

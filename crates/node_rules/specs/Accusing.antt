@@ -9,7 +9,7 @@ use Rattle.ff_ids.specs.Faults.{accusation_fault}
 use Rattle.records.specs.declared.Body.TheVariants.{Accusation}
 use Rattle.node_rules.specs.Nodes.{Setting, Node, state_of}
 use Rattle.node_rules.specs.Calls.{Call, is_used_up}
-use Rattle.node_rules.specs.Ticking.{ring_for, accusation_on, has_accused, accuses_all, passed, probed_at, silent_at}
+use Rattle.node_rules.specs.Ticking.{ring_for, accusation_on, has_accused, accuses_all, passed, spread_at, silent_at}
 use Rattle.node_rules.specs.Lives.{Input, Ticks, call_of}
 use Rattle.journal.specs.declared.event.What.TheVariants as told
 
@@ -38,9 +38,9 @@ pub record MayAccuse (s : Setting) (st : State) (m : ℕ) : Type 0 where
 -- against it is kept already, the one that the node wants has no fault, and where an index is left it is kept then.
 abbrev pub OwnAccusationsAreAccepted : Type 0
 OwnAccusationsAreAccepted = (s : Setting) (n : Node) (before : List ℕ) (m : ℕ) (behind : List ℕ) → silent_at s n ≡ before ++ m ∷ behind
-    → has_accused s (state_of s (accuses_all s before (probed_at s n)).node) m ≡ false
-    → MayAccuse s (state_of s (accuses_all s before (probed_at s n)).node) m
-    × (is_used_up s (accuses_all s before (probed_at s n)).node ≡ false → KeepsOwnAgainst s (state_of s (accuses_all s (before ++ m ∷ []) (probed_at s n)).node) m)
+    → has_accused s (state_of s (accuses_all s before (spread_at s n)).node) m ≡ false
+    → MayAccuse s (state_of s (accuses_all s before (spread_at s n)).node) m
+    × (is_used_up s (accuses_all s before (spread_at s n)).node ≡ false → KeepsOwnAgainst s (state_of s (accuses_all s (before ++ m ∷ []) (spread_at s n)).node) m)
 
 -- The member was silent at this tick, and the node was its monitor on the ring, in its own view, by its newest note.
 pub record AccusesTheSilent (s : Setting) (n : Node) (a : AccBody) : Type 0 where

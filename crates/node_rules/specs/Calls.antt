@@ -12,7 +12,7 @@ use Rattle.datagram.specs.Spelling.{datagram_bytes}
 use Rattle.journal.specs.declared.event.Event as journal
 use Rattle.journal.specs.declared.event.What as whats
 use Rattle.journal.specs.declared.event.What.TheVariants as told
-use Rattle.node_rules.specs.Nodes.{Setting, Node, state_of, event_of, with_record, without_ended}
+use Rattle.node_rules.specs.Nodes.{Setting, Node, state_of, event_of, with_record, without_ended, retires, without_removal, with_news}
 
 -- A call so far: the node, the events, the datagrams, and whether the disk failed in it.
 pub record Call : Type 0 where
@@ -36,12 +36,12 @@ whats_of r = map told.Expired r.expired ++ map told.Removed r.removed ++ map tol
 abbrev pub told_of : ℕ → Report → List journal.Event
 told_of moment r = map (λ what. record { moment = moment; what = what }) (whats_of r)
 
--- One event of the life, which is reported with its report. What it ends is held no more.
+-- One event of the life, which is reported with its report. What it ends is held no more, but for what removed a member.
 unfoldable pub lives : Setting → Event → Call → Call
 lives s e c =
     let stepped = step s.group (state_of s c.node) e in
     record {
-      node = record c.node { lived = c.node.lived ++ e ∷ []; held = without_ended stepped.report c.node.held };
+      node = record c.node { lived = c.node.lived ++ e ∷ []; held = without_ended stepped.report (retires s.heal stepped.report c.node.held) };
       told = c.told ++ told_of stepped.state.moment stepped.report;
       sent = c.sent;
       ended = c.ended;
@@ -65,11 +65,12 @@ sends_to_all s addressees d c = fold (sends s d) c addressees
 
 -- ---- records
 
--- A record is accepted: it brings its event to the life, and is held.
+-- A record is accepted: it brings its event to the life, and is held. It may be news.
 unfoldable pub takes : Setting → Record → Call → Call
 takes s r c =
     let c1 = lives s (event_of s r.body) c in
-    record c1 { node = record c1.node { held = with_record r c1.node.held } }
+    let held = with_record r (without_removal r.body c1.node.held) in
+    record c1 { node = record c1.node { held = held; news = with_news s.heal r.body c1.node.news } }
 
 -- ---- own signatures
 

@@ -1,6 +1,6 @@
 -- What a call adds to the life of its node, and what becomes of the probes.
 use Rattle.std.specs.Prelude.{◌≡◌, ℕ, ◌+◌, ◌==◌, if◌then◌else◌, List, [], ◌∷◌, ◌++◌, Option, Some, None, Ok}
-use Rattle.ff_ids.specs.declared.AccBody.{AccBody}
+use Rattle.ff_ids.specs.declared.NoteBody.{NoteBody}
 use Rattle.ff_ids.specs.declared.Fault.{Fault}
 use Rattle.ff_ids.specs.Views.{State}
 use Rattle.ff_ids.specs.Steps.{Event, Notes, Ticks}
@@ -12,7 +12,7 @@ use Rattle.detector.specs.Silence.{History, ticked as probed}
 use Rattle.node_rules.specs.Nodes.{Setting, Node, state_of, event_of}
 use Rattle.node_rules.specs.Refusals.{refusal}
 use Rattle.node_rules.specs.Calls.{Call, is_used_up}
-use Rattle.node_rules.specs.Deliveries.{answering_note, delivered}
+use Rattle.node_rules.specs.Deliveries.{delivered}
 use Rattle.node_rules.specs.Ticking.{is_due, watched_by, ticked}
 use Rattle.node_rules.specs.Leaving.{left, leaving_note}
 use Rattle.node_rules.specs.Verdicts.{when_handled}
@@ -31,17 +31,17 @@ abbrev pub accepted_event : Setting → Option Fault → Body → List Event
 accepted_event s None b = event_of s b ∷ []
 accepted_event s (Some fault) b = []
 
--- So does the note that answers it, where the key has an index.
-abbrev pub answer_event : Setting → Node → Option AccBody → List Event
+-- So does the note that it asks, where the key has an index.
+abbrev pub answer_event : Setting → Node → Option NoteBody → List Event
 answer_event s n None = []
-answer_event s n (Some a) = if is_used_up s n then [] else Notes (answering_note s n.stored a) ∷ []
+answer_event s n (Some note) = if is_used_up s n then [] else Notes note ∷ []
 
--- The events that delivered records add to the life, with those of the answers.
+-- The events that delivered records add to the life, with those of the notes that they ask.
 abbrev pub gained : Setting → Node → List Record → List Event
 gained s n [] = []
 gained s n (r ∷ records) = accepted_event s (refusal s n r) r.body ++ answer_event s n (asked_by s n r) ++ gained s (when_handled s n r) records
 
--- Delivered records add to the life what is accepted of them, each with its answer behind it, and nothing else.
+-- Delivered records add to the life what is accepted of them, each with the note that it asks behind it, and nothing else.
 abbrev pub RecordsAreLived : Type 0
 RecordsAreLived = (s : Setting) (n : Node) (bytes : List ℕ) (from : ℕ) (records : List Record) → read_of bytes ≡ Ok (kinds.Records from records)
     → ComesTo (n.lived ++ gained s n records) n.probes (delivered s n bytes)

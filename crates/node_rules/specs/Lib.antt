@@ -21,3 +21,6 @@ pub mod Gaining
 pub mod OnRings
 pub mod OneExchange
 pub mod Addressing
+pub mod Plain
+pub mod ComingBack
+pub mod Spans

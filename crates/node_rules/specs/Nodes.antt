@@ -5,6 +5,7 @@ use Rattle.std.specs.Option.{option_and_then}
 use Rattle.std.specs.Ordering.{eq_by_cmp}
 use Rattle.ff_ids.specs.declared.Group.{Group}
 use Rattle.ff_ids.specs.declared.AccBody.{AccBody}
+use Rattle.ff_ids.specs.Heals.{Heal}
 use Rattle.ff_ids.specs.declared.summary.RecordKey.{RecordKey}
 use Rattle.ff_ids.specs.declared.summary.RecordKey.TheVariants as keys
 use Rattle.ff_ids.specs.Masks.{ring_count}
@@ -22,12 +23,14 @@ use Rattle.detector.specs.Silence.{History}
 
 -- What a node is opened with: its group, its own number, the authority's key, and how many indexes its own key has.
 -- What hashes and signatures are is no rule of membership: the places of a member on the rings, whether a record's
--- signature verifies under a key, and the node's own signature of an index over a body.
+-- signature verifies under a key, and the node's own signature of an index over a body. And whether nodes that lost each
+-- other are to come together again.
 pub record Setting : Type 0 where
   pub group : Group
   pub me : ℕ
   pub authority : Key
   pub indexes : ℕ
+  pub heal : Option Heal
   pub places : ℕ → List (List ℕ)
   pub verifies : Key → Record → Bool
   pub signature : ℕ → Body → List ℕ
@@ -37,12 +40,15 @@ abbrev pub Holding : Type 0
 Holding = RecordKey → Option Record
 
 -- What a node has come to: the membership events of its life so far, the records that it holds, what its store keeps,
--- and the probes of the life.
+-- and the probes of the life; the keys of the notes and accusations that it accepted since its last due tick; and the epoch
+-- of its own note as the present span of one timeout began.
 pub record Node : Type 0 where
   pub lived : List Event
   pub held : Holding
   pub stored : Stored
   pub probes : History
+  pub news : List RecordKey
+  pub since : ℕ
 
 -- The state of its life, which opened with nobody.
 unfoldable pub state_of : Setting → Node → State
@@ -73,6 +79,36 @@ key_of_accusation a = keys.Accusation a.accused a.ring
 -- What a step reports as expired or fallen is held no more.
 abbrev pub without_ended : Report → Holding → Holding
 without_ended r held = fold without held (map key_of_accusation (r.expired ++ r.fell))
+
+-- What has expired against a member is held as that by which it was removed, in place of an earlier one.
+abbrev pub retired : Holding → AccBody → Holding
+retired held a k = if eq_by_cmp key_cmp k (keys.Removal a.accused) then held (key_of_accusation a) else held k
+
+-- It is held so alone.
+abbrev pub moved : Holding → AccBody → Holding
+moved held a = without (retired held a) (key_of_accusation a)
+
+-- With the option the accusation by which a member was removed is held on; of several, that on the highest ring.
+abbrev pub retires : Option Heal → Report → Holding → Holding
+retires None r held = held
+retires (Some heal) r held = fold moved held r.expired
+
+-- A note that is accepted ends the removal of its member.
+abbrev pub without_removal : Body → Holding → Holding
+without_removal (Certificate c) held = held
+without_removal (Note n) held = without held (keys.Removal n.member)
+without_removal (Accusation a) held = held
+
+-- The keys with this one, each once.
+abbrev pub with_key : RecordKey → List RecordKey → List RecordKey
+with_key k news = if list_any (eq_by_cmp key_cmp k) news then news else news ++ k ∷ []
+
+-- A note or an accusation that is accepted is news, with the option.
+abbrev pub with_news : Option Heal → Body → List RecordKey → List RecordKey
+with_news None b news = news
+with_news (Some heal) (Certificate c) news = news
+with_news (Some heal) (Note n) news = with_key (key_of (Note n)) news
+with_news (Some heal) (Accusation a) news = with_key (key_of (Accusation a)) news
 
 abbrev pub certificate_in : Body → Option CertBody
 certificate_in (Certificate c) = Some c

@@ -9,7 +9,7 @@ use Rattle.datagram.specs.Grammar.{read_of}
 use Rattle.node_rules.specs.Nodes.{Setting, Node, state_of}
 use Rattle.node_rules.specs.Calls.{Call, begun}
 use Rattle.node_rules.specs.Deliveries.{handles, hears}
-use Rattle.node_rules.specs.Ticking.{accuses, gossips, is_due, passed, pings_all, pings_in, probed_at, round_of, silent_in}
+use Rattle.node_rules.specs.Ticking.{accuses, gossips, is_due, passed, pings_all, pings_in, probed_at, round_of, silent_in, spreads}
 use Rattle.node_rules.specs.Leaving.{leaves}
 
 -- What a node is called with: a datagram, a tick, or to leave.
@@ -63,10 +63,11 @@ delivered_on storage s n bytes disk = hears_on storage s (read_of bytes) (record
 unfoldable pub accuses_on : {D : Type 0} → Storage D → Setting → OnDisk D → ℕ → OnDisk D
 accuses_on storage s d m = steps_on storage (λ works c x. accuses works s c x) d m
 
--- Of a tick that is due the accusations, and then the pings and the summary.
+-- Of a tick that is due the news and the accusations, and then the pings and the summary.
 unfoldable pub due_on : {D : Type 0} → Storage D → Setting → List ℕ → List (ℕ × ℕ) → ℕ → OnDisk D → OnDisk D
 due_on storage s accused pings round d =
-    goes_on (λ e. record e { call = gossips s round (pings_all s pings e.call) }) (fold (accuses_on storage s) d accused)
+    let spread = record d { call = spreads s d.call } in
+    goes_on (λ e. record e { call = gossips s round (pings_all s pings e.call) }) (fold (accuses_on storage s) spread accused)
 
 unfoldable pub ticked_on : {D : Type 0} → Storage D → Setting → Node → D → OnDisk D
 ticked_on storage s n disk =

@@ -10,10 +10,11 @@ use Rattle.ff_ids.specs.declared.summary.RecordKey.TheVariants as keys
 use Rattle.ff_ids.specs.declared.summary.Summary.{Summary}
 use Rattle.ff_ids.specs.Notes.{note_cmp, newest}
 use Rattle.ff_ids.specs.Summaries.{page_of_member}
-use Rattle.ff_ids.specs.Views.{is_member}
+use Rattle.ff_ids.specs.Views.{in_view, is_member}
 use Rattle.ff_ids.specs.Faults.{is_kept}
 use Rattle.records.specs.declared.keys.Key.{Key}
 use Rattle.records.specs.declared.CertBody.{CertBody}
+use Rattle.records.specs.declared.Body.{Body}
 use Rattle.records.specs.declared.Body.TheVariants.{Accusation}
 use Rattle.records.specs.declared.Record.{Record}
 use Rattle.records.specs.Spelling.{HasLength}
@@ -21,10 +22,9 @@ use Rattle.epoch_store.specs.declared.Stored.{Stored}
 use Rattle.datagram.specs.declared.Datagram.{Datagram}
 use Rattle.datagram.specs.declared.Datagram.TheVariants as kinds
 use Rattle.datagram.specs.Spelling.{datagram_bytes, IsSignedRecord, IsDatagram}
-use Rattle.gossip.specs.Differ.{differ}
 use Rattle.record_set.specs.Held.{key_of}
 use Rattle.node_rules.specs.Nodes.{Setting, Node, state_of, key_of_accusation, certificate_of, is_certified, public_key_of}
-use Rattle.node_rules.specs.Pages.{page, note_held, lacking}
+use Rattle.node_rules.specs.Pages.{page, note_held, wanted, lacking}
 use Rattle.node_rules.specs.Deliveries.{is_other, delivered}
 use Rattle.node_rules.specs.Lives.{HasRings, IsKit, Input, Delivers, Ticks, Leaves, life_of}
 use Rattle.node_rules.specs.Vouching.{OwnSignaturesVerify, IsCertifiedBy}
@@ -85,28 +85,36 @@ pub record HoldsAccusation (n : Node) (a : AccBody) : Type 0 where
   pub held : n.held (key_of_accusation a) ≡ Some rec
   pub says : rec.body ≡ Accusation a
 
+-- The key is the one of what the record says, or that of the removal of whom it accuses.
+abbrev pub IsFiled : Body → RecordKey → Type 0
+IsFiled b (keys.Removal m) = (a : AccBody) × ((b ≡ Accusation a) × (a.accused ≡ m))
+IsFiled b k = key_of b ≡ k
+
 -- What is held is what the life has come to: each record under its own key, the newest note of each member, a
--- certificate of exactly those who have joined, and just the accusations that are kept; and each of them verifies.
+-- certificate of exactly those who have joined, and just the accusations that are kept, beside those by which a
+-- member was removed that is out of the view since; and each of them verifies.
 pub record HoldsItsLife (s : Setting) (n : Node) : Type 0 where
-  pub filed : (k : RecordKey) (r : Record) → n.held k ≡ Some r → key_of r.body ≡ k
+  pub filed : (k : RecordKey) (r : Record) → n.held k ≡ Some r → IsFiled r.body k
   pub notes : (m : ℕ) → note_held n.held m ≡ newest (state_of s n).notes m
   pub members : (m : ℕ) → is_certified n m ≡ is_member (state_of s n) m
   pub certificates : (m : ℕ) (r : Record) → n.held (keys.Certificate m) ≡ Some r → s.verifies s.authority r ≡ true
   pub signed : (m : ℕ) (r : Record) → n.held (keys.Note m) ≡ Some r → IsSignedBy s n m r
   pub kept : (a : AccBody) → HoldsAccusation n a ↔ (is_kept (state_of s n) a ≡ true)
   pub accused : (k : RecordKey) (r : Record) (a : AccBody) → n.held k ≡ Some r → r.body ≡ Accusation a → IsSignedBy s n a.accuser r
+  pub out : (m : ℕ) (r : Record) → n.held (keys.Removal m) ≡ Some r → in_view (state_of s n) m ≡ false
 
 abbrev pub WhatIsHeldIsTheLife : Type 0
 WhatIsHeldIsTheLife = (l : Life) (inputs : List Input) → IsCorrect l → HoldsItsLife l.setting (node_after l inputs)
 
 -- The datagram of what the other side lacks.
-abbrev pub given_to : Setting → Node → Summary → Datagram
-given_to s n theirs = kinds.Records s.me (lacking n theirs)
+abbrev pub given_to : Setting → Node → ℕ → Summary → Datagram
+given_to s n from theirs = kinds.Records s.me (lacking n from theirs)
 
 -- Whatever a correct node holds has a spelling. So the bytes of what it gives are that datagram and no other.
 pub record CanBeSent (s : Setting) (n : Node) : Type 0 where
   pub held : (k : RecordKey) (r : Record) → n.held k ≡ Some r → IsSignedRecord r
-  pub given : (theirs : Summary) → 0 < length (lacking n theirs) → IsDatagram (datagram_bytes (given_to s n theirs)) (given_to s n theirs)
+  pub given : (from : ℕ) (theirs : Summary) → 0 < length (lacking n from theirs)
+      → IsDatagram (datagram_bytes (given_to s n from theirs)) (given_to s n from theirs)
 
 abbrev pub WhatIsHeldCanBeSent : Type 0
 WhatIsHeldCanBeSent = (l : Life) (inputs : List Input) → IsCorrect l → IsWithinRanges l → AllByRecursion IsOfBytes inputs → CanBeSent l.setting (node_after l inputs)
@@ -114,8 +122,8 @@ WhatIsHeldCanBeSent = (l : Life) (inputs : List Input) → IsCorrect l → IsWit
 -- A summary of a certified member other than the node is answered by that datagram before all else, if there is anything
 -- that it lacks.
 abbrev pub SummariesAreAnswered : Type 0
-SummariesAreAnswered = (s : Setting) (n : Node) (from : ℕ) (flag : Bool) (theirs : Summary) (bytes : List ℕ) → IsDatagram bytes (kinds.Summary from flag theirs) → is_other s n from ≡ true → 0 < length (lacking n theirs)
-    → slice_get (delivered s n bytes).sent 0 ≡ Some (from, datagram_bytes (given_to s n theirs))
+SummariesAreAnswered = (s : Setting) (n : Node) (from : ℕ) (flag : Bool) (theirs : Summary) (bytes : List ℕ) → IsDatagram bytes (kinds.Summary from flag theirs) → is_other s n from ≡ true → 0 < length (lacking n from theirs)
+    → slice_get (delivered s n bytes).sent 0 ≡ Some (from, datagram_bytes (given_to s n from theirs))
 
 -- ---- what an exchange rests on
 
@@ -126,13 +134,13 @@ pub record AreOfOneGroup (a b : Setting) : Type 0 where
   pub verdicts : a.verifies ≡ b.verifies
 
 -- All that the other side lacks of the page of its summary.
-abbrev pub all_lacking : Node → Summary → List Record
-all_lacking n theirs = filter_map n.held (differ (page n theirs.page).listed theirs.listed)
+abbrev pub all_lacking : Node → ℕ → Summary → List Record
+all_lacking n from theirs = filter_map n.held (wanted n from theirs)
 
 -- These are the bytes that answer the summary, and no record was left out for want of room.
-pub record HoldsAllLacking (s : Setting) (n : Node) (theirs : Summary) (bytes : List ℕ) : Type 0 where
-  pub whole : lacking n theirs ≡ all_lacking n theirs
-  pub spelled : bytes ≡ datagram_bytes (given_to s n theirs)
+pub record HoldsAllLacking (s : Setting) (n : Node) (from : ℕ) (theirs : Summary) (bytes : List ℕ) : Type 0 where
+  pub whole : lacking n from theirs ≡ all_lacking n from theirs
+  pub spelled : bytes ≡ datagram_bytes (given_to s n from theirs)
 
 -- The two keep no two different certificates for one number.
 abbrev pub AgreeOnCertificates : Node → Node → Type 0
@@ -165,11 +173,11 @@ pub record Meet (a b : Life) (made before between : List Input) : Type 0 where
 -- a note at least as great as a had.
 abbrev pub OneExchangeIsEnough : Type 0
 OneExchangeIsEnough = (a b : Life) (made before between : List Input) (number : ℕ) (bytes : List ℕ) → Meet a b made before between
-    → HoldsAllLacking a.setting (node_after a made) (page (node_after b before) number) bytes
+    → HoldsAllLacking a.setting (node_after a made) b.setting.me (page (node_after b before) number) bytes
     → (m : ℕ) → page_of_member m ≡ number → IsKnownAmong m (notes_after a made) (notes_after b ((before ++ between) ++ Delivers bytes ∷ []))
 
 -- And where it lacked nothing, it has them already.
 abbrev pub NothingLackingIsEnough : Type 0
 NothingLackingIsEnough = (a b : Life) (made before between : List Input) (number : ℕ) → Meet a b made before between
-    → all_lacking (node_after a made) (page (node_after b before) number) ≡ []
+    → all_lacking (node_after a made) b.setting.me (page (node_after b before) number) ≡ []
     → (m : ℕ) → page_of_member m ≡ number → IsKnownAmong m (notes_after a made) (notes_after b (before ++ between))

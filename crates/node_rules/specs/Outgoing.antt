@@ -11,7 +11,7 @@ use Rattle.journal.specs.declared.event.What as whats
 use Rattle.journal.specs.declared.event.What.TheVariants as told
 use Rattle.node_rules.specs.Nodes.{Setting, Node, state_of, neighbours, neighbours_and}
 use Rattle.node_rules.specs.Pages.{page, partner, page_number}
-use Rattle.node_rules.specs.Ticking.{ring_for, accusation_on, has_accused, is_due, silent_in, pings_in, round_of, passed, ticked}
+use Rattle.node_rules.specs.Ticking.{ring_for, accusation_on, has_accused, fresh, is_due, silent_in, pings_in, round_of, passed, ticked}
 use Rattle.node_rules.specs.Calls.{is_used_up, own_record}
 use Rattle.node_rules.specs.Leaving.{leaving, left}
 use Rattle.node_rules.specs.Verdicts.{all_at, told_that, is_apart}
@@ -45,6 +45,16 @@ accusations_out s st index (m ∷ accused) =
     if index == s.indexes then []
     else to_each (neighbours_and s m st) (kinds.Records s.me (accusation_by s st index m ∷ [])) ++ accusations_out s st (index + 1) accused
 
+-- ---- news
+
+-- What is new goes to each of the neighbours in one datagram, if there is any.
+abbrev pub news_in : Setting → State → List Record → List (ℕ × List ℕ)
+news_in s st [] = []
+news_in s st (r ∷ records) = to_each (neighbours s st) (kinds.Records s.me (r ∷ records))
+
+abbrev pub news_out : Setting → State → Node → List (ℕ × List ℕ)
+news_out s st n = news_in s st (fresh n)
+
 -- ---- pings and the summary
 
 abbrev pub pings_out : Setting → List (ℕ × ℕ) → List (ℕ × List ℕ)
@@ -54,11 +64,13 @@ pings_out s pings = map (λ p. (p.0, datagram_bytes (kinds.Ping s.me p.1))) ping
 abbrev pub summary_out : Setting → Node → ℕ → List (ℕ × List ℕ)
 summary_out s n round = option_map_or (λ to. (to, datagram_bytes (kinds.Summary s.me false (page n (page_number s n round)))) ∷ []) (partner s n round) []
 
--- What goes out at a tick of this state: nothing where it isn't due, else the accusations, the pings, and the summary.
+-- What goes out at a tick of this state: nothing where it isn't due, else the news, the accusations, the pings, and the
+-- summary.
 abbrev pub goes_out : Setting → Node → State → Node → List (ℕ × List ℕ)
 goes_out s n st later =
-    if is_due s st then accusations_out s st n.stored.next (to_accuse s n st) ++ pings_out s (pings_in s n st) ++ summary_out s later (round_of s st)
-    else []
+    let accusations = accusations_out s st n.stored.next (to_accuse s n st) in
+    let pings = pings_out s (pings_in s n st) in
+    if is_due s st then news_out s st n ++ accusations ++ pings ++ summary_out s later (round_of s st) else []
 
 abbrev pub TickSends : Type 0
 TickSends = (s : Setting) (n : Node) → (ticked s n).sent ≡ goes_out s (at_tick s n) (state_of s (at_tick s n)) (ticked s n).node

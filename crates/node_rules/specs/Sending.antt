@@ -64,4 +64,4 @@ reply s n to false number = (to, datagram_bytes (kinds.Summary s.me true (page n
 -- A summary brings what its sender lacks, and then the reply, if that is another certified member.
 abbrev pub SummariesBring : Type 0
 SummariesBring = (s : Setting) (n : Node) (bytes : List ℕ) (from : ℕ) (flag : Bool) (theirs : Summary) → read_of bytes ≡ Ok (kinds.Summary from flag theirs)
-    → Brings s n (told.Summary from theirs.page flag) (if is_other s n from then given s from (lacking n theirs) ++ reply s n from flag theirs.page else []) n (delivered s n bytes)
+    → Brings s n (told.Summary from theirs.page flag) (if is_other s n from then given s from (lacking n from theirs) ++ reply s n from flag theirs.page else []) n (delivered s n bytes)

@@ -9,9 +9,17 @@ use Rattle.detector.specs.Silence.{opening}
 use Rattle.node_rules.specs.Replies.{first_mask}
 use Rattle.node_rules.specs.Calls.{Call, begun, takes, signs}
 
--- A node with nothing but what its store keeps and the seed of its nonces.
+-- A node with nothing but what its store keeps and the seed of its nonces. Its first note comes before the first span.
 abbrev pub blank : Setting → List ℕ → Stored → Node
-blank s seed stored = record { lived = []; held = nothing_held; stored = stored; probes = opening s.group seed }
+blank s seed stored =
+    record {
+      lived = [];
+      held = nothing_held;
+      stored = stored;
+      probes = opening s.group seed;
+      news = [];
+      since = stored.epoch + 1;
+    }
 
 -- It takes the certificates of its kit, in order.
 abbrev pub opened : Setting → List ℕ → List Record → Stored → Call

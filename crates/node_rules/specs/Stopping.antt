@@ -1,6 +1,6 @@
 -- What a call reports and sends in which the disk fails.
 use Rattle.std.specs.Prelude.{◌≡◌, ℕ, ◌-◌, true, false, List, [], ◌∷◌, ◌++◌, Option, Some, None, Ok}
-use Rattle.ff_ids.specs.declared.AccBody.{AccBody}
+use Rattle.ff_ids.specs.declared.NoteBody.{NoteBody}
 use Rattle.records.specs.declared.Record.{Record}
 use Rattle.datagram.specs.declared.Datagram.TheVariants as kinds
 use Rattle.datagram.specs.Grammar.{read_of}
@@ -8,12 +8,12 @@ use Rattle.journal.specs.declared.event.What as whats
 use Rattle.journal.specs.declared.event.What.TheVariants as told
 use Rattle.node_rules.specs.Nodes.{Setting, Node, state_of}
 use Rattle.node_rules.specs.Calls.{Call, is_used_up}
-use Rattle.node_rules.specs.Ticking.{has_accused, accuses_all, probed_at, silent_at}
+use Rattle.node_rules.specs.Ticking.{has_accused, accuses_all, spread_at, silent_at}
 use Rattle.node_rules.specs.OnDisks.{Input, Delivers, Ticks, Leaves, called}
 use Rattle.node_rules.specs.Lives.{call_of}
 use Rattle.node_rules.specs.Verdicts.{all_at, told_that, is_apart, is_took, when_all_handled, verdict_on, verdicts}
 use Rattle.node_rules.specs.Answering.{asked_by, records_told, answers_sent}
-use Rattle.node_rules.specs.Outgoing.{at_tick, unaccused, accusations_out, accusing_told}
+use Rattle.node_rules.specs.Outgoing.{at_tick, unaccused, news_out, accusations_out, accusing_told}
 
 -- The call has reported these, beside the life and the datagrams, and that it stopped; it has sent these datagrams; and the
 -- life is over.
@@ -22,17 +22,17 @@ pub record StopsBehind (moment : ℕ) (whats : List whats.What) (sent : List (�
   pub sent_so : c.sent ≡ sent
   pub over : c.ended ≡ true
 
--- The record is an accepted accusation against the node, and its key has an index for the answer.
+-- The record asks a note of the node, and its key has an index for it.
 pub record WantsAnswer (s : Setting) (n : Node) (r : Record) : Type 0 where
-  pub accusation : AccBody
-  pub asked : asked_by s n r ≡ Some accusation
+  pub note : NoteBody
+  pub asked : asked_by s n r ≡ Some note
   pub left : is_used_up s n ≡ false
 
--- The puts for the answers to these records.
+-- The puts for the notes that these records ask.
 abbrev pub puts_for : Setting → Node → List Record → ℕ
 puts_for s n records = (when_all_handled s n records).stored.next - n.stored.next
 
--- The put for the answer to a record of the datagram, behind those for the records before it.
+-- The put for the note that a record of the datagram asks, behind those for the records before it.
 pub record StopsAnswering (s : Setting) (n : Node) (bytes : List ℕ) (put : ℕ) : Type 0 where
   pub from : ℕ
   pub before : List Record
@@ -55,7 +55,7 @@ StoppedVerdictsAreTold = (s : Setting) (n : Node) (bytes : List ℕ) (put : ℕ)
 
 -- The puts for the accusations of these at a tick.
 abbrev pub puts_against : Setting → Node → List ℕ → ℕ
-puts_against s n silent = (accuses_all s silent (probed_at s n)).node.stored.next - n.stored.next
+puts_against s n silent = (accuses_all s silent (spread_at s n)).node.stored.next - n.stored.next
 
 -- The put for the accusation of a member that is silent at the tick, behind those for the members before it.
 pub record StopsAccusing (s : Setting) (n : Node) (put : ℕ) : Type 0 where
@@ -64,14 +64,15 @@ pub record StopsAccusing (s : Setting) (n : Node) (put : ℕ) : Type 0 where
   pub behind : List ℕ
   pub silent : silent_at s n ≡ before ++ at ∷ behind
   pub unaccused : has_accused s (state_of s (at_tick s n)) at ≡ false
-  pub left : is_used_up s (accuses_all s before (probed_at s n)).node ≡ false
+  pub left : is_used_up s (accuses_all s before (spread_at s n)).node ≡ false
   pub puts : put ≡ puts_against s n before
 
--- Where it fails, the accusations of those before it are reported and sent as ever, and no ping and no summary goes out.
+-- Where it fails, the news and the accusations of those before it are reported and sent as ever, and no ping and no summary
+-- goes out.
 abbrev pub StoppedTickEnds : Type 0
 StoppedTickEnds = (s : Setting) (n : Node) (put : ℕ) (stop : StopsAccusing s n put) → let p = at_tick s n in let st = state_of s p in
     StopsBehind st.moment (accusing_told s st p.stored.next (unaccused s st stop.before) ++ told.Silent stop.at ∷ [])
-    (accusations_out s st p.stored.next (unaccused s st stop.before)) (called s n Ticks (Some put))
+    (news_out s st (at_tick s n) ++ accusations_out s st p.stored.next (unaccused s st stop.before)) (called s n Ticks (Some put))
 
 -- The put for the note by which the node leaves, which is the only one of its call.
 pub record StopsLeaving (s : Setting) (n : Node) (put : ℕ) : Type 0 where

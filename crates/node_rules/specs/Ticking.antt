@@ -1,5 +1,5 @@
 -- What a node does at a tick.
-use Rattle.std.specs.Prelude.{ℕ, ◌-◌, ◌/◌, ◌%◌, Bool, true, false, ◌==◌, if◌then◌else◌, List, [], Option, Some, None, fold, filter}
+use Rattle.std.specs.Prelude.{ℕ, ◌-◌, ◌/◌, ◌%◌, Bool, true, false, ◌==◌, if◌then◌else◌, List, [], ◌∷◌, Option, Some, None, fold, filter, filter_map}
 use Rattle.std.specs.List.{list_any, slice_get, range_with_len}
 use Rattle.std.specs.Option.{option_and_then}
 use Rattle.ff_ids.specs.declared.NoteBody.{NoteBody}
@@ -11,14 +11,15 @@ use Rattle.ff_ids.specs.Steps.{Ticks}
 use Rattle.membership.specs.Reports.{kept_against}
 use Rattle.records.specs.declared.Body.{Body}
 use Rattle.records.specs.declared.Body.TheVariants.{Accusation}
+use Rattle.records.specs.declared.Record.{Record}
 use Rattle.datagram.specs.declared.Datagram.TheVariants as kinds
 use Rattle.journal.specs.declared.event.What.TheVariants as told
 use Rattle.detector.specs.declared.watch.Watched.{Watched}
 use Rattle.detector.specs.Watching.{watched, newest_epoch}
 use Rattle.detector.specs.Silence.{silent, pings, ticked as probed}
-use Rattle.node_rules.specs.Nodes.{Setting, Node, state_of, neighbours_and}
-use Rattle.node_rules.specs.Pages.{page, partner, page_number}
-use Rattle.node_rules.specs.Calls.{Call, begun, tells, lives, wants, sends}
+use Rattle.node_rules.specs.Nodes.{Setting, Node, state_of, neighbours, neighbours_and}
+use Rattle.node_rules.specs.Pages.{page, partner, page_number, room, fitting}
+use Rattle.node_rules.specs.Calls.{Call, begun, tells, lives, wants, sends, sends_to_all}
 
 -- ---- accusations
 
@@ -56,6 +57,20 @@ accuses works s c m =
 abbrev pub accuses_all : Setting → List ℕ → Call → Call
 accuses_all s silent c = fold (accuses true s) c silent
 
+-- ---- news
+
+-- What is new and still held, in the order in which it was accepted, as much as fits in one datagram.
+unfoldable pub fresh : Node → List Record
+fresh n = fitting room (filter_map n.held n.news)
+
+abbrev pub spreads_all : Setting → List Record → Call → Call
+spreads_all s [] c = c
+spreads_all s (r ∷ records) c = sends_to_all s (neighbours s (state_of s c.node)) (kinds.Records s.me (r ∷ records)) c
+
+-- It goes to each of the neighbours, and is news no more.
+unfoldable pub spreads : Setting → Call → Call
+spreads s c = let c1 = spreads_all s (fresh c.node) c in record c1 { node = record c1.node { news = [] } }
+
 -- ---- pings and the summary
 
 abbrev pub is_due : Setting → State → Bool
@@ -72,9 +87,17 @@ silent_in s n st = if is_due s st then silent n.probes (watched_by s st) else []
 abbrev pub pings_in : Setting → Node → State → List (ℕ × ℕ)
 pings_in s n st = pings n.probes (is_due s st) (watched_by s st)
 
--- The probes of the life see this tick.
+-- A span of one timeout begins: how far the node's epoch may rise in it counts from its present one.
+abbrev pub begins_span : Setting → State → Bool
+begins_span s st = st.moment % s.group.timeout == 0
+
+-- The probes of the life see this tick, and a span may begin at it.
 abbrev pub probes_after : Setting → Node → State → Node
-probes_after s n st = record n { probes = probed n.probes (is_due s st) (watched_by s st) }
+probes_after s n st =
+    record n {
+      probes = probed n.probes (is_due s st) (watched_by s st);
+      since = if begins_span s st then n.stored.epoch else n.since;
+    }
 
 abbrev pub pings_all : Setting → List (ℕ × ℕ) → Call → Call
 pings_all s sent c = fold (λ c p. sends s (kinds.Ping s.me p.1) c p.0) c sent
@@ -103,9 +126,13 @@ probed_at s n =
     let c = passed s n in
     record c { node = probes_after s c.node (state_of s c.node) }
 
--- A tick that is due: the accusations, then the pings, then the summary.
+-- What stands before the first accusation of a due tick.
+unfoldable pub spread_at : Setting → Node → Call
+spread_at s n = spreads s (probed_at s n)
+
+-- A tick that is due: the news, then the accusations, then the pings, then the summary.
 unfoldable pub due_tick : Setting → List ℕ → List (ℕ × ℕ) → ℕ → Call → Call
-due_tick s accused sent round c = gossips s round (pings_all s sent (accuses_all s accused c))
+due_tick s accused sent round c = gossips s round (pings_all s sent (accuses_all s accused (spreads s c)))
 
 -- A tick, where the disk works.
 unfoldable pub ticked : Setting → Node → Call

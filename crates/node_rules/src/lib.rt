@@ -16,6 +16,9 @@ ghost use Rattle.node_rules.specs.OnRings.{RingForIsLowest, NeighboursAreSuccess
 ghost use Rattle.node_rules.specs.OneExchange.{WhatIsHeldIsTheLife, WhatIsHeldCanBeSent, SummariesAreAnswered, OneExchangeIsEnough, NothingLackingIsEnough};
 ghost use Rattle.node_rules.specs.Known.{OnlyKnownIsSent};
 ghost use Rattle.node_rules.specs.Addressing.{OnlyCertifiedAreAddressed, AddresseesHavePorts};
+ghost use Rattle.node_rules.specs.Plain.{LivesArePlain};
+ghost use Rattle.node_rules.specs.ComingBack.{WhoIsRemovedIsTold, WhoIsToldComesBack, NextNotesBringBack};
+ghost use Rattle.node_rules.specs.Spans.{EpochsAreBounded};
 
 /// In every life of a node each member that goes out of the view does so by an accepted note of its own that leaves, or at a
 /// tick, and then an accusation accepted earlier against it stood in each state between, for the timeout at least.
@@ -89,7 +92,7 @@ pub fn only_the_silent_are_accused()
 {}
 
 /// A delivery reports one verdict on each record that was read, in order: its body and its first fault, in the node as
-/// the records before it have left it. Where the disk fails in an answer, the verdict on that record is the last.
+/// the records before it have left it. Where the disk fails in the note that a record asks, the verdict on that is the last.
 pub fn verdicts_are_told()
     ensures whole { VerdictsAreTold }
     ensures stopped { StoppedVerdictsAreTold }
@@ -101,19 +104,20 @@ pub fn bad_forms_are_told()
     ensures { BadFormsAreTold }
 {}
 
-/// Each accepted accusation against the node, and no other record, spends one index on the note that answers it, or
-/// reports that the key is used up, directly behind the verdict. Where records are delivered, nothing goes out but
-/// these notes, in order, each to the node's neighbours.
+/// Each record that asks a note of the node, and no other, spends one index on it, or reports that the key is used up,
+/// directly behind the verdict: an accepted accusation against the node asks its answer, and one by which the node hears that
+/// others removed it a note to come back. Where records are delivered, nothing goes out but these notes, in order, each
+/// to the node's neighbours.
 pub fn answers_go_out()
     ensures told { AnswersAreTold }
     ensures behind { RecordsAreTold }
     ensures sent { AnswersAreSent }
 {}
 
-/// At a due tick there go out, in order: for each silent member that the node has not accused, as long as its key has
-/// an index, one accusation, to the neighbours and to the member; the pings; the summary. At any other tick nothing
-/// does. Beside the life and the datagrams it is reported that each of those is silent, and behind each the index that is
-/// spent on it, or that none is left; and nothing else.
+/// At a due tick there go out, in order: what is new and still held, in one datagram to the neighbours; for each silent
+/// member that the node has not accused, as long as its key has an index, one accusation, to the neighbours and to the
+/// member; the pings; the summary. At any other tick nothing does. Beside the life and the datagrams it is reported that
+/// each of those is silent, and behind each the index that is spent on it, or that none is left; and nothing else.
 pub fn ticks_go_out()
     ensures sent { TickSends }
     ensures told { TickTells }
@@ -126,9 +130,9 @@ pub fn leaving_goes_out()
     ensures told { LeavingTells }
 {}
 
-/// Where the put for an answer, for an accusation or for a leaving note fails, what comes before it is reported and sent as
-/// ever, nothing behind it is, and the life is over. No other put ends a call, and a call that none ends is whole and ends no
-/// life.
+/// Where the put for a note that is asked, for an accusation or for a leaving note fails, what comes before it is reported
+/// and sent as ever, nothing behind it is, and the life is over. No other put ends a call, and a call that none ends is
+/// whole and ends no life.
 pub fn stopped_calls_end()
     ensures delivery { StoppedDeliveryEnds }
     ensures tick { StoppedTickEnds }
@@ -172,7 +176,7 @@ pub fn what_probes_and_summaries_bring()
     ensures summary { SummariesBring }
 {}
 
-/// Delivered records add to the life what is accepted of them, in order, each with the note that answers it behind it.
+/// Delivered records add to the life what is accepted of them, in order, each with the note that it asks behind it.
 /// A tick adds itself and the accusations that are made at it, and the probes see it. A node that leaves adds its leaving note,
 /// where the key has an index for it. None adds anything else.
 pub fn what_lives_gain()
@@ -195,7 +199,8 @@ pub fn neighbours_are_successors()
 
 /// A correct node holds what its life has come to: the newest note of each member, each verified under the key in its
 /// member's certificate, and a certificate, verified under the authority's key, of exactly those who have joined. It holds
-/// just the accusations that it keeps, each verified under the key in its accuser's certificate.
+/// just the accusations that it keeps, beside those by which a member was removed that is out of its view since, each
+/// verified under the key in its accuser's certificate.
 pub fn what_is_held_is_the_life()
     ensures { WhatIsHeldIsTheLife }
 {}
@@ -220,4 +225,30 @@ pub fn summaries_are_answered()
 pub fn one_exchange_is_enough()
     ensures handed { OneExchangeIsEnough }
     ensures nothing { NothingLackingIsEnough }
+{}
+
+/// Where the setting doesn't have nodes come together again, nothing is ever news in a life, and nothing is held as that by
+/// which a member was removed. No news goes out then, an accepted accusation against the node asks its answer and no other
+/// record asks a note, the partner and the page of a round are those of the plain rules, and a summary is answered by what
+/// it lacks alone.
+pub fn nothing_changes_without_the_option()
+    ensures { LivesArePlain }
+{}
+
+/// Who was removed comes back. Of all that a member lacks by its summary the accusation by which the node removed it is
+/// the last. A correct node with the option that is delivered an accusation against it, of its newest epoch, on a ring that
+/// its mask enables, and verifying under the key of another member, signs a note of the next epoch, whatever its own view is
+/// of the accuser and of itself; that is its newest note then, and goes to its neighbours. The accusation is to be new to
+/// it, its epoch may rise in the span, and its key has an index. And an accepted note of a greater epoch than its
+/// member's newest, by which the member doesn't leave, brings the member into the view, and ends the removal that is held.
+pub fn who_is_told_comes_back()
+    ensures asks { WhoIsRemovedIsTold }
+    ensures told { WhoIsToldComesBack }
+    ensures back { NextNotesBringBack }
+{}
+
+/// With the option and a bound in it, the epoch of a node that hasn't left is in every state of every life at most that bound
+/// above its epoch as the present span of one timeout began.
+pub fn epochs_are_bounded()
+    ensures { EpochsAreBounded }
 {}

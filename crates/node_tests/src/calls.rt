@@ -3,8 +3,8 @@
 ghost use Rattle.records.specs.Spelling.{HasPort};
 
 use crate::scene::{
-    GROUP, accusation, append, first_of_two, head, key_of, note, single, tells, tells_and_sends,
-    told,
+    GROUP, accusation, append, first_of_two, head, key_of, note, own_key, single, tells,
+    tells_and_sends, told,
 };
 use fixtures::{Key, Player};
 use node_core::NodeFault;
@@ -70,21 +70,6 @@ fn a_note_is_taken_once(rt: HostRuntime) -> Result<(), Fail> {
 /// The node takes the first note of 2.
 fn learns_of_2(alloc: Global, node: &mut Player, key: &mut Key) -> Result<(), Fail> {
     Ok(node.deliver(alloc, &first_note(alloc, key)?)?)
-}
-
-/// The key of 1, of which so many leaves are spent.
-fn own_key(alloc: Global, spent: u8) -> Result<Key, Fail> {
-    let mut own = key_of(alloc, 1)?;
-    spend(alloc, &mut own, spent)?;
-    Ok(own)
-}
-
-/// So many leaves of the key sign.
-fn spend(alloc: Global, key: &mut Key, count: u8) -> Result<(), Fail> {
-    for _ in 0..count {
-        key.sign(alloc, &GROUP, note(1, 1, 7))?;
-    }
-    Ok(())
 }
 
 /// Appends the note that stands in these bytes, and the signature of the key's next leaf.

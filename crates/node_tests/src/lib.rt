@@ -7,6 +7,8 @@ mod calls;
 #[cfg(test)]
 mod carried;
 #[cfg(test)]
+mod healing;
+#[cfg(test)]
 mod oddities;
 #[cfg(test)]
 mod running;

@@ -3,7 +3,7 @@
 ghost use Rattle.records.specs.Spelling.{HasPort};
 
 use datagram::records_head;
-use ff_ids::{AccBody, Epoch, Group, Mask, MemberId, NoteBody, RingNo};
+use ff_ids::{AccBody, Epoch, Group, Heal, Mask, MemberId, NoteBody, RingNo};
 use fixtures::{Crew, Key, Kinds, Player};
 use lms_ots::OtsKind;
 use lms_tree::TreeKind;
@@ -43,6 +43,21 @@ pub fn member(number: u8) -> MemberId {
 /// The member's key, with all its leaves.
 pub fn key_of(alloc: Global, number: u8) -> Result<Key, Fail> {
     Ok(Key::of(alloc, &GROUP.tag, u16::from(number), KINDS)?)
+}
+
+/// The key of 1, of which so many leaves are spent.
+pub fn own_key(alloc: Global, spent: u8) -> Result<Key, Fail> {
+    let mut own = key_of(alloc, 1)?;
+    spend(alloc, &mut own, spent)?;
+    Ok(own)
+}
+
+/// So many leaves of the key sign.
+fn spend(alloc: Global, key: &mut Key, count: u8) -> Result<(), Fail> {
+    for _ in 0..count {
+        key.sign(alloc, &GROUP, note(1, 1, 7))?;
+    }
+    Ok(())
 }
 
 /// A note; epoch 0 stands for 1.
@@ -92,6 +107,14 @@ pub fn start(alloc: Global, crew: &Crew, number: u8) -> Result<Player, Fail> {
 /// Member 1, started in a world of it and 2.
 pub fn first_of_two(alloc: Global) -> Result<Player, Fail> {
     start(alloc, &crew_of(alloc, 2)?, 1)
+}
+
+/// Member 1, started in a world of so many whose nodes come together again: each second round goes out of the view, and so many
+/// notes are signed for others' sake in a timeout.
+pub fn first_healing(alloc: Global, count: u8, most: u16) -> Result<Player, Fail> {
+    let mut crew = crew_of(alloc, count)?;
+    crew.set_heal(Heal::new(2, most));
+    start(alloc, &crew, 1)
 }
 
 /// The head of a records datagram of so many records; 0 stands for 1.
@@ -173,9 +196,22 @@ pub fn tells_and_sends(
     lines: &str,
     answer: &[u8],
 ) -> Result<(), Fail> {
+    tells_and_sends_at(rt, alloc, node, bytes, 0, lines, answer)
+}
+
+/// The same at this moment.
+pub fn tells_and_sends_at(
+    rt: &impl Abort,
+    alloc: Global,
+    node: &mut Player,
+    bytes: &[u8],
+    moment: u8,
+    lines: &str,
+    answer: &[u8],
+) -> Result<(), Fail> {
     node.deliver(alloc, bytes)?;
     sent_to_2(rt, node, answer);
     let digits = hex::encode(alloc, answer)?;
-    let wanted = format!(in alloc; "{lines}at 0 sent 0 2 {digits}\n")?;
+    let wanted = format!(in alloc; "{lines}at {moment} sent 0 2 {digits}\n")?;
     told(rt, alloc, node, wanted.as_str())
 }

@@ -3,14 +3,15 @@
 mod scene;
 
 ghost use Rattle.std.specs.Prelude.{◌≡◌, IfOk, []};
+ghost use Rattle.ports.specs.MemoryClock.{NeverFalls};
 ghost use Rattle.records.specs.Spelling.{HasPort};
 
-use ff_ids::{AccBody, Epoch, Mask, MemberId, NoteBody, RingNo};
+use ff_ids::{AccBody, Epoch, Group, Heal, Mask, MemberId, NoteBody, RingNo};
 use fixtures::Key;
 use node_loop::ServeFault;
 use ports::LinkAnswer;
 use records::Body;
-use scene::{Served, Turns, got, key_of, record_of_2, serve_first_life};
+use scene::{GROUP, Served, Turns, got, key_of, record_of_2, serve_first_life};
 use std::alloc::Global;
 use std::process::Abort;
 use std::test::Fail;
@@ -69,13 +70,9 @@ fn ping_without_answer(alloc: Global) -> Result<Turns, Fail>
 {
     let fail_sends = [0u64].to_vec(alloc)?;
     let answers = one_ping(alloc)?;
-    Ok(Turns {
-        answers,
-        fail_sends,
-        times: Vec::new(alloc),
-        turns: 2,
-        stops: false,
-    })
+    let mut with = Turns::of(alloc, answers, 2);
+    with.fail_sends = fail_sends;
+    Ok(with)
 }
 
 #[test]
@@ -116,13 +113,8 @@ fn ticked(rt: &impl Abort, served: &Served) {
 #[test]
 fn ticks_that_a_turn_leaves_come_in_the_next(rt: HostRuntime) -> Result<(), Fail> {
     let alloc = rt.alloc();
-    let with = Turns {
-        answers: Vec::new(alloc),
-        fail_sends: Vec::new(alloc),
-        times: [1_000u64, 7_500].to_vec(alloc)?,
-        turns: 3,
-        stops: false,
-    };
+    let mut with = Turns::of(alloc, Vec::new(alloc), 3);
+    with.times = [1_000u64, 7_500].to_vec(alloc)?;
     let served = serve_first_life(alloc, with)?;
     ticked(&rt, &served);
     drop(served);
@@ -141,24 +133,29 @@ fn push_record(
     Ok(answers.push(record_of_2(alloc, key, body)?)?)
 }
 
+/// The first note of 2 comes.
+fn push_note(alloc: Global, key: &mut Key, answers: &mut Vec<LinkAnswer>) -> Result<(), Fail> {
+    let note = NoteBody {
+        member: MemberId::new(2),
+        epoch: Epoch::new(1),
+        mask: Mask(7),
+    };
+    push_record(alloc, key, Body::Note(note), answers)
+}
+
 /// The first note of 2 comes, and its accusation of 1.
 fn push_note_and_accusation(
     alloc: Global,
     key: &mut Key,
     answers: &mut Vec<LinkAnswer>,
 ) -> Result<(), Fail> {
-    let note = NoteBody {
-        member: MemberId::new(2),
-        epoch: Epoch::new(1),
-        mask: Mask(7),
-    };
     let acc = AccBody {
         accuser: MemberId::new(2),
         accused: MemberId::new(1),
         epoch: Epoch::new(1),
         ring: RingNo(0),
     };
-    push_record(alloc, key, Body::Note(note), answers)?;
+    push_note(alloc, key, answers)?;
     push_record(alloc, key, Body::Accusation(acc), answers)
 }
 
@@ -186,4 +183,96 @@ fn a_store_that_fails_at_a_rebuttal_ends_the_life(rt: HostRuntime) -> Result<(),
     stopped(&rt, &served);
     drop(served);
     Ok(())
+}
+
+/// Of ten ticks the last is due.
+const SHORT: Group = Group {
+    period: 10,
+    ..GROUP
+};
+
+/// The pongs of 2 to the first two pings, whose nonces are another implementation's of ChaCha.
+const PONGS: [[u8; 14]; 2] = [
+    *b"\x46\x46\x01\x02\x00\x02\x78\x92\x00\xf4\x41\xf6\xaa\x57",
+    *b"\x46\x46\x01\x02\x00\x02\xba\x61\xf5\x14\x70\x79\xb3\xac",
+];
+
+/// The first note of 2 comes, and then its pongs.
+fn note_and_pongs(alloc: Global) -> Result<Vec<LinkAnswer>, Fail> {
+    let mut answers = Vec::new(alloc);
+    push_note(alloc, &mut key_of(alloc, 2)?, &mut answers)?;
+    for pong in &PONGS {
+        answers.push(got(alloc, pong)?)?;
+    }
+    Ok(answers)
+}
+
+/// Three turns, before the second of which a pause lasts for 90 ticks. The pong to the first ping waits in the link.
+fn with_pause(alloc: Global, heal: Option<Heal>) -> Result<Turns, Fail>
+    ensures { IfOk result (λ with. NeverFalls 0 with.times.items) }
+{
+    let mut with = Turns::of(alloc, note_and_pongs(alloc)?, 3);
+    with.group = SHORT;
+    with.heal = heal;
+    with.times = [0u64, 1_000, 10_000, 11_000].to_vec(alloc)?;
+    Ok(with)
+}
+
+/// The lines of fewer than 100 bytes that tell of no datagram which was sent.
+fn short_lines(alloc: Global, journal: &[u8]) -> Result<String, Fail> {
+    let text = String::from_utf8(journal.to_vec(alloc)?).or(Err("no text"))?;
+    let mut short = String::new(alloc);
+    for line in text.as_str().lines() {
+        if line.len() < 100 && !line.contains(" sent ") {
+            short.push_str(line)?;
+            short.push('\n')?;
+        }
+    }
+    Ok(short)
+}
+
+/// The journal says this in its short lines, and there were so many ticks.
+fn says(
+    rt: &impl Abort,
+    alloc: Global,
+    served: &Served,
+    wanted: &str,
+    now: u64,
+) -> Result<(), Fail> {
+    let short = short_lines(alloc, served.journal())?;
+    assert_eq!(rt; served.done(), Ok(()));
+    assert_eq!(rt; short.as_str(), wanted);
+    assert_eq!(rt; served.now(), now);
+    Ok(())
+}
+
+/// A life with that pause says this.
+fn pauses(
+    rt: &impl Abort,
+    alloc: Global,
+    heal: Option<Heal>,
+    wanted: &str,
+    now: u64,
+) -> Result<(), Fail> {
+    let served = serve_first_life(alloc, with_pause(alloc, heal)?)?;
+    let done = says(rt, alloc, &served, wanted, now);
+    drop(served);
+    done
+}
+
+/// Of the 90 ticks one turn makes 64, in which 2 can't be heard.
+const ACCUSED: &str = "at 0 took note 2 1 7 : accepted\nat 0 entered 2\n\
+    turn 2 got 464601020002789200f441f6aa57 ticks 64\nat 10 pong 2 8688007680229812823 counted\n\
+    at 40 silent 2\nat 40 spent 1 accuse 1 2 1 0\n\
+    turn 3 got 464601020002ba61f5147079b3ac ticks 36\nat 74 pong 2 13430285031930704812 stray\n";
+
+/// Of the 90 ticks 80 are forgotten, and each pong comes before the next due tick.
+const HEARD: &str = "at 0 took note 2 1 7 : accepted\nat 0 entered 2\n\
+    turn 2 got 464601020002789200f441f6aa57 ticks 10\nat 10 pong 2 8688007680229812823 counted\n\
+    turn 3 got 464601020002ba61f5147079b3ac ticks 10\nat 20 pong 2 13430285031930704812 counted\n";
+
+#[test]
+fn with_the_option_a_pause_is_no_silence(rt: HostRuntime) -> Result<(), Fail> {
+    pauses(&rt, rt.alloc(), None, ACCUSED, 110)?;
+    pauses(&rt, rt.alloc(), Heal::new(2, 0), HEARD, 30)
 }

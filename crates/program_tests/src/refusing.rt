@@ -169,7 +169,7 @@ fn the_text_of_a_secret(rt: HostRuntime) -> Result<(), Fail> {
 }
 
 /// A secret of 31 bytes, one of 33, and others that are none.
-const SECRETS: [Refused; 6] = [
+const SECRETS: [Refused; 7] = [
     (
         "secret 5a5a5a5a5a5a5a5a5a5a5a5a5a5a5a5a5a5a5a5a5a5a5a5a5a5a5a5a5a5a5a\n",
         "bad 4 limit\n",
@@ -182,6 +182,7 @@ const SECRETS: [Refused; 6] = [
     ("secret -\n", "bad 4 hex\n"),
     ("secret\n", "bad 4 count\n"),
     ("end\n", "bad 4 order\n"),
+    ("heal 2 0\n", "bad 4 word\n"),
 ];
 
 const BEHIND_SECRET: [Refused; 6] = [
@@ -325,16 +326,24 @@ fn the_text_of_a_member(rt: HostRuntime) -> Result<(), Fail> {
     refuse_owned(&rt, rt.alloc())
 }
 
-const OWN: [Refused; 5] = [
+const OWN: [Refused; 12] = [
     ("authority #\n", "bad 4 order\n"),
     ("secret 00\n", "bad 4 word\n"),
     ("self 1 00\n", "bad 4 limit\n"),
     ("self 1024 00\n", "bad 4 limit\n"),
     ("self 1\n", "bad 4 count\n"),
+    ("heal 1 1\n", "bad 4 limit\n"),
+    ("heal 1001 1\n", "bad 4 limit\n"),
+    ("heal 2 1001\n", "bad 4 limit\n"),
+    ("heal x 1\n", "bad 4 number\n"),
+    ("heal 2\n", "bad 4 count\n"),
+    ("heal 2 0\nheal 2 0\n", "bad 5 order\n"),
+    ("heal 1000 1000\nself 1 00\n", "bad 5 limit\n"),
 ];
 
-const BEHIND_OWN: [Refused; 4] = [
+const BEHIND_OWN: [Refused; 5] = [
     ("tick 100\n", "bad 5 order\n"),
+    ("heal 2 0\n", "bad 5 order\n"),
     ("authority 00\n", "bad 5 limit\n"),
     ("authority #\ntick 60001\n", "bad 6 limit\n"),
     ("authority #\ntick 1x\n", "bad 6 number\n"),

@@ -224,8 +224,17 @@ const SMALL: &str =
     "fireflies 1 world\ngroup 1 4 1 2 00000000000000000000000000000000\nkinds 2 5\n";
 
 /// Lines behind the head, which are written back, and those of a line that is refused behind them.
-const REFUSED: [(&str, &str, &str); 16] = [
+const REFUSED: [(&str, &str, &str); 25] = [
     ("", "kinds 2 5\n", "bad 4 order\n"),
+    ("", "heal 1 1\n", "bad 4 limit\n"),
+    ("", "heal 1001 1\n", "bad 4 limit\n"),
+    ("", "heal 2 1001\n", "bad 4 limit\n"),
+    ("", "heal x 1\n", "bad 4 number\n"),
+    ("", "heal 2\n", "bad 4 count\n"),
+    ("heal 2 0\n", "heal 2 0\n", "bad 5 order\n"),
+    ("heal 1000 1000\n", "kinds 2 5\n", "bad 5 order\n"),
+    ("node 1\n", "heal 2 0\n", "bad 5 order\n"),
+    ("liar 1\n", "heal 2 0\n", "bad 5 order\n"),
     ("node 1\n", "node 1\n", "bad 5 limit\n"),
     ("node 1\n", "node 1024\n", "bad 5 limit\n"),
     ("node 1\n", "start 1\n", "bad 5 order\n"),

@@ -27,15 +27,22 @@ same_numbers : (x y : RecordKey) → key_numbers x ≡ key_numbers y → x ≡ y
 same_numbers (keys.Certificate m) (keys.Certificate n) e = let at : m ≡ n = cc in ap keys.Certificate at
 same_numbers (keys.Certificate m) (keys.Note n) e = absurd (cc)
 same_numbers (keys.Certificate m) (keys.Accusation n s) e = absurd (cc)
+same_numbers (keys.Certificate m) (keys.Removal n) e = absurd (cc)
 same_numbers (keys.Note m) (keys.Certificate n) e = absurd (cc)
 same_numbers (keys.Note m) (keys.Note n) e = let at : m ≡ n = cc in ap keys.Note at
 same_numbers (keys.Note m) (keys.Accusation n s) e = absurd (cc)
+same_numbers (keys.Note m) (keys.Removal n) e = absurd (cc)
 same_numbers (keys.Accusation m r) (keys.Certificate n) e = absurd (cc)
 same_numbers (keys.Accusation m r) (keys.Note n) e = absurd (cc)
 same_numbers (keys.Accusation m r) (keys.Accusation n s) e =
     let at : m ≡ n = cc in
     let on : r.0 ≡ s.0 = cc in
     ap (λ k. keys.Accusation k r) at ∙ ap (keys.Accusation n) (ring_is r s on)
+same_numbers (keys.Accusation m r) (keys.Removal n) e = absurd (cc)
+same_numbers (keys.Removal m) (keys.Certificate n) e = absurd (cc)
+same_numbers (keys.Removal m) (keys.Note n) e = absurd (cc)
+same_numbers (keys.Removal m) (keys.Accusation n s) e = absurd (cc)
+same_numbers (keys.Removal m) (keys.Removal n) e = let at : m ≡ n = cc in ap keys.Removal at
 
 pub key_cmp-IsAntisymmetric : IsAntisymmetric key_cmp
 key_cmp-IsAntisymmetric x y e = same_numbers x y (slice_cmp-IsAntisymmetric nat_cmp-IsAntisymmetric (key_numbers x) (key_numbers y) e)

@@ -36,6 +36,7 @@ slot_within : (k : RecordKey) → HasSlot k → (SLOTS_EACH * member_of k ≤ sl
 slot_within (keys.Certificate m) h = (omega arith, omega arith)
 slot_within (keys.Note m) h = (omega arith, omega arith)
 slot_within (keys.Accusation m ring) h = (omega arith, omega (arith, h))
+slot_within (keys.Removal m) h = (omega arith, omega arith)
 
 -- another member's entry stays
 entry_apart : (slots : List Slot) (k : RecordKey) (o : Slot) (m : ℕ) → HasSlot k → m ≢ member_of k → entry_in (slice_set slots (slot_of k) o) m ≡ entry_in slots m

@@ -59,7 +59,7 @@ bits = (refl, refl, refl)
 
 -- the slots of a member with a note and an accusation on ring 1, behind those of two others
 abbrev slots : List Slot
-slots = replicate 130 None ++ None ∷ Some (signed (note 4 6) 3) ∷ None ∷ Some (signed (bodies.Accusation accusation) 3) ∷ []
+slots = replicate 132 None ++ None ∷ Some (signed (note 4 6) 3) ∷ None ∷ Some (signed (bodies.Accusation accusation) 3) ∷ []
 
 entries : (entry_in slots 2 ≡ record { member = 2; epoch = 4; mask = record { 0 = 6 }; rings = 2 })
     × (entry_in slots 1 ≡ record { member = 1; epoch = 0; mask = record { 0 = 0 }; rings = 0 })

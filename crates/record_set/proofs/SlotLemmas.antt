@@ -24,15 +24,21 @@ part_0 m part e = ap (key_of_part m) e
 part_1 : (m part : ℕ) → part ≡ 1 → key_of_part m part ≡ keys.Note m
 part_1 m part e = ap (key_of_part m) e
 
-part_from_2 : (m part r : ℕ) → part ≡ 2 + r → key_of_part m part ≡ keys.Accusation m (record { 0 = r })
-part_from_2 m part r e =
+part_ring : (m part r : ℕ) → part ≡ 2 + r → r < MAX_RINGS → key_of_part m part ≡ keys.Accusation m (record { 0 = r })
+part_ring m part r e h =
     let not_0 : eqb (2 + r) 0 ≡ false = grind (arith, nat_tests) in
     let not_1 : eqb (2 + r) 1 ≡ false = grind (arith, nat_tests) in
+    let not_last : eqb (2 + r) (2 + MAX_RINGS) ≡ false = grind (arith, nat_tests, h) in
     let left : 2 + r - 2 ≡ r = omega arith in
+    let ring : RecordKey = keys.Accusation m (record { 0 = 2 + r - 2 }) in
     ap (key_of_part m) e
-    ∙ ap (λ b. cond b (keys.Certificate m) (cond (eqb (2 + r) 1) (keys.Note m) (keys.Accusation m (record { 0 = 2 + r - 2 })))) not_0
-    ∙ ap (λ b. cond b (keys.Note m) (keys.Accusation m (record { 0 = 2 + r - 2 }))) not_1
+    ∙ ap (λ b. cond b (keys.Certificate m) (cond (eqb (2 + r) 1) (keys.Note m) (cond (eqb (2 + r) (2 + MAX_RINGS)) (keys.Removal m) ring))) not_0
+    ∙ ap (λ b. cond b (keys.Note m) (cond (eqb (2 + r) (2 + MAX_RINGS)) (keys.Removal m) ring)) not_1
+    ∙ ap (λ b. cond b (keys.Removal m) ring) not_last
     ∙ ap (λ (s : ℕ). keys.Accusation m (record { 0 = s })) left
+
+part_last : (m part : ℕ) → part ≡ 2 + MAX_RINGS → key_of_part m part ≡ keys.Removal m
+part_last m part e = ap (key_of_part m) e
 
 pub key_at-slot_of : (k : RecordKey) → HasSlot k → key_at (slot_of k) ≡ k
 key_at-slot_of (keys.Certificate m) h =
@@ -46,7 +52,11 @@ key_at-slot_of (keys.Note m) h =
 key_at-slot_of (keys.Accusation m ring) h =
     let whole : (SLOTS_EACH * m + 2 + ring.0) / SLOTS_EACH ≡ m = omega (arith, h) in
     let part : (SLOTS_EACH * m + 2 + ring.0) % SLOTS_EACH ≡ 2 + ring.0 = omega (arith, h) in
-    part_from_2 ((SLOTS_EACH * m + 2 + ring.0) / SLOTS_EACH) ((SLOTS_EACH * m + 2 + ring.0) % SLOTS_EACH) ring.0 part ∙ ap (λ k. keys.Accusation k ring) whole
+    part_ring ((SLOTS_EACH * m + 2 + ring.0) / SLOTS_EACH) ((SLOTS_EACH * m + 2 + ring.0) % SLOTS_EACH) ring.0 part h ∙ ap (λ k. keys.Accusation k ring) whole
+key_at-slot_of (keys.Removal m) h =
+    let whole : (SLOTS_EACH * m + 2 + MAX_RINGS) / SLOTS_EACH ≡ m = omega arith in
+    let part : (SLOTS_EACH * m + 2 + MAX_RINGS) % SLOTS_EACH ≡ 2 + MAX_RINGS = omega arith in
+    part_last ((SLOTS_EACH * m + 2 + MAX_RINGS) / SLOTS_EACH) ((SLOTS_EACH * m + 2 + MAX_RINGS) % SLOTS_EACH) part ∙ ap keys.Removal whole
 
 -- what is known of the key of a part
 record IsPart (m part : ℕ) (k : RecordKey) : Type 0 where
@@ -57,9 +67,15 @@ record IsPart (m part : ℕ) (k : RecordKey) : Type 0 where
 is_part : (m part : ℕ) → part < SLOTS_EACH → IsPart m part (key_of_part m part)
 is_part m zero h = record { slot = omega arith; member = refl; has_slot = tt }
 is_part m (suc zero) h = record { slot = omega arith; member = refl; has_slot = tt }
-is_part m (suc (suc r)) h =
-    let more : suc (suc r) ≡ 2 + r = omega arith in
-    subst (IsPart m (suc (suc r))) (sym (part_from_2 m (suc (suc r)) r more)) (record { slot = omega arith; member = refl; has_slot = omega arith })
+is_part m (suc (suc r)) h = by_ring (cases_lt r MAX_RINGS)
+  where
+    by_ring : (r < MAX_RINGS) ⊎ (MAX_RINGS ≤ r) → IsPart m (suc (suc r)) (key_of_part m (suc (suc r)))
+    by_ring (inl below) =
+        let more : suc (suc r) ≡ 2 + r = omega arith in
+        subst (IsPart m (suc (suc r))) (sym (part_ring m (suc (suc r)) r more below)) (record { slot = omega arith; member = refl; has_slot = below })
+    by_ring (inr above) =
+        let last : suc (suc r) ≡ 2 + MAX_RINGS = omega (arith, h, above) in
+        subst (IsPart m (suc (suc r))) (sym (part_last m (suc (suc r)) last)) (record { slot = omega (arith, last); member = refl; has_slot = tt })
 
 at_part : (slot : ℕ) → IsPart (slot / SLOTS_EACH) (slot % SLOTS_EACH) (key_at slot)
 at_part slot = is_part (slot / SLOTS_EACH) (slot % SLOTS_EACH) (omega arith)
@@ -79,6 +95,7 @@ pub slot_below : (k : RecordKey) → IsSlotted k → slot_of k < SLOTS
 slot_below (keys.Certificate m) h = omega (arith, h.member)
 slot_below (keys.Note m) h = omega (arith, h.member)
 slot_below (keys.Accusation m ring) h = omega (arith, h.member, h.slot)
+slot_below (keys.Removal m) h = omega (arith, h.member)
 
 -- ---- the map of the slots
 
@@ -124,6 +141,7 @@ with_member k h = by_number (cases_lt (member_of k) MEMBERS)
 pub is_slotted : (k : RecordKey) → IsSlotted k ⊎ (IsSlotted k → ⊥)
 is_slotted (keys.Certificate m) = with_member (keys.Certificate m) tt
 is_slotted (keys.Note m) = with_member (keys.Note m) tt
+is_slotted (keys.Removal m) = with_member (keys.Removal m) tt
 is_slotted (keys.Accusation m ring) = by_ring (cases_lt ring.0 MAX_RINGS)
   where
     by_ring : (ring.0 < MAX_RINGS) ⊎ (MAX_RINGS ≤ ring.0) → IsSlotted (keys.Accusation m ring) ⊎ (IsSlotted (keys.Accusation m ring) → ⊥)
@@ -131,10 +149,10 @@ is_slotted (keys.Accusation m ring) = by_ring (cases_lt ring.0 MAX_RINGS)
     by_ring (inr above) = inr (λ s. absurd (omega (arith, s.slot, above)))
 
 -- the key of what may be put
-pub slotted_body : (t : ℕ) (b : Body) → t ≤ MAX_TOLERANCE → HasRing t b → member_of (key_of b) < MEMBERS → IsSlotted (key_of b)
-slotted_body t (bodies.Certificate c) few ring member = record { member = member; slot = tt }
-slotted_body t (bodies.Note n) few ring member = record { member = member; slot = tt }
-slotted_body t (bodies.Accusation a) few ring member = record { member = member; slot = omega (arith, ring, few) }
+pub slot_of_body : (t : ℕ) (b : Body) → t ≤ MAX_TOLERANCE → HasRing t b → HasSlot (key_of b)
+slot_of_body t (bodies.Certificate c) few ring = tt
+slot_of_body t (bodies.Note n) few ring = tt
+slot_of_body t (bodies.Accusation a) few ring = omega (arith, ring, few)
 
 -- who holds something has a slot
 pub held-slotted : (slots : List Slot) (k : RecordKey) → length slots ≤ SLOTS → IsSome (get (held_in slots) k) → IsSlotted k

@@ -1,4 +1,5 @@
--- How the records are kept: `SLOTS_EACH` slots for each member, of its certificate, its note, and the accusations against it by ring.
+-- How the records are kept: `SLOTS_EACH` slots for each member, of its certificate, its note, the accusations against it
+-- by ring, and the one that removed it.
 -- Behind the last slot that was written there may be none: what has no slot isn't held.
 use Rattle.std.specs.Prelude.{◌≡◌, ℕ, ◌+◌, ◌*◌, ◌-◌, ◌/◌, ◌%◌, ◌<◌, ◌≤◌, ◌==◌, if◌then◌else◌, List, [], ◌∷◌, Option, Some, None, is_some, length, map, filter, slice_index_or}
 use Rattle.std.specs.List.{range_with_len}
@@ -20,21 +21,28 @@ abbrev pub slot_of : RecordKey → ℕ
 slot_of (keys.Certificate m) = SLOTS_EACH * m
 slot_of (keys.Note m) = SLOTS_EACH * m + 1
 slot_of (keys.Accusation m ring) = SLOTS_EACH * m + 2 + ring.0
+slot_of (keys.Removal m) = SLOTS_EACH * m + 2 + MAX_RINGS
 
 -- the member of a key: of an accusation the accused
 abbrev pub member_of : RecordKey → ℕ
 member_of (keys.Certificate m) = m
 member_of (keys.Note m) = m
 member_of (keys.Accusation m ring) = m
+member_of (keys.Removal m) = m
 
 -- There is a slot for each ring below `MAX_RINGS`.
 abbrev pub HasSlot : RecordKey → Type 0
 HasSlot (keys.Certificate m) = Unit {0}
 HasSlot (keys.Note m) = Unit {0}
 HasSlot (keys.Accusation m ring) = ring.0 < MAX_RINGS
+HasSlot (keys.Removal m) = Unit {0}
 
 abbrev pub key_of_part : ℕ → ℕ → RecordKey
-key_of_part m part = if part == 0 then keys.Certificate m else (if part == 1 then keys.Note m else keys.Accusation m (record { 0 = part - 2 }))
+key_of_part m part =
+    if part == 0 then keys.Certificate m
+    else if part == 1 then keys.Note m
+    else if part == 2 + MAX_RINGS then keys.Removal m
+    else keys.Accusation m (record { 0 = part - 2 })
 
 -- the key of the slot
 abbrev pub key_at : ℕ → RecordKey

@@ -6,10 +6,11 @@
 ghost use Rattle.std.specs.Prelude.{◌≡◌, ◌<◌, ◌≤◌, ◌++◌, IfOk, OnErr, IsSome, Some, All, take};
 ghost use Rattle.std.specs.FinMap as map;
 ghost use Rattle.ff_ids.specs.declared.TheConstants.{MAX_TOLERANCE};
-ghost use Rattle.ff_ids.specs.declared.summary.RecordKey.TheVariants.{Accusation};
+ghost use Rattle.ff_ids.specs.declared.summary.RecordKey.TheVariants.{Accusation, Removal};
 ghost use Rattle.records.specs.Signing.{IsChecked};
-ghost use Rattle.record_set.specs.Held.{held_under, key_of};
+ghost use Rattle.record_set.specs.Held.{held_under, key_of, retired};
 ghost use Rattle.record_set.specs.Pages.{summary_of};
+ghost use Rattle.record_set.specs.Slots.{HasSlot};
 ghost use Rattle.record_set.specs.Picks.{HasRing, held_all, spelled, fitting, IsLongestFit, IsFront};
 
 pub mod laws;
@@ -19,8 +20,8 @@ use ff_ids::{MAX_RINGS, MemberId, PAGE_MEMBERS, PAGES, RecordKey, RingNo, Summar
 use fields::NoMemory;
 use records::{Checked, write_record};
 use slots::{
-    SLOTS, clear, fresh_entry, kept_in, key_of, member_of, no_entries, push_certified, reach,
-    slot_of, spelled_length,
+    SLOTS, clear, fresh_entry, has_slot, kept_in, key_of, member_of, no_entries, push_certified,
+    reach, slot_of, spelled_length,
 };
 use std::alloc::Global;
 use std::marker::Model;
@@ -69,23 +70,65 @@ impl RecordSet {
         ensures checked { IsChecked rec }
     {
         let key = key_of(&rec.rec().body);
-        let member = member_of(&key);
-        let slot = slot_of(&key);
-        reach(&mut self.slots, slot);
-        self.slots[slot] = Some(rec);
-        self.entries[member.get() as usize] = fresh_entry(&self.slots, member);
+        self.hold(&key, rec);
     }
 
     /// Holds no accusation against the member on this ring any more.
     pub fn drop_accusation(&mut self, accused: MemberId, ring: RingNo)
         ensures { self.new ≡ map.remove self.old (Accusation accused ring) }
     {
-        if ring.0 < MAX_RINGS {
-            clear(
-                &mut self.slots,
-                slot_of(&RecordKey::Accusation(accused, ring)),
-            );
-            self.entries[accused.get() as usize] = fresh_entry(&self.slots, accused);
+        self.take_out(&RecordKey::Accusation(accused, ring));
+    }
+
+    /// Holds no accusation by which the member was removed any more.
+    pub fn drop_removal(&mut self, member: MemberId)
+        ensures { self.new ≡ map.remove self.old (Removal member) }
+    {
+        self.take_out(&RecordKey::Removal(member));
+    }
+
+    /// Holds the accusation against the member on this ring as the one by which it was removed, in place of any
+    /// such; where there is none, none of either.
+    pub fn retire(&mut self, accused: MemberId, ring: RingNo)
+        ensures { self.new ≡ retired self.old accused ring }
+    {
+        match self.take_out(&RecordKey::Accusation(accused, ring)) {
+            Some(rec) => self.hold(&RecordKey::Removal(accused), rec),
+            None => self.drop_removal(accused),
+        }
+    }
+
+    /// Whether a record is held under the key.
+    pub fn contains(&self, key: &RecordKey) -> bool
+        ensures { result ≡ map.contains_key self.now key.now }
+    {
+        has_slot(key) && kept_in(&self.slots, slot_of(key)).is_some()
+    }
+
+    /// Holds the record in place of what the key held.
+    fn hold(&mut self, key: &RecordKey, rec: Checked)
+        requires { HasSlot key.now }
+        ensures { self.new ≡ map.insert self.old key.now rec }
+    {
+        let member = member_of(key);
+        let slot = slot_of(key);
+        reach(&mut self.slots, slot);
+        self.slots[slot] = Some(rec);
+        self.entries[member.get() as usize] = fresh_entry(&self.slots, member);
+    }
+
+    /// Holds nothing under the key any more; the answer is what it held.
+    fn take_out(&mut self, key: &RecordKey) -> Option<Checked>
+        ensures held { self.new ≡ map.remove self.old key.now }
+        ensures taken { result ≡ held_under self.old key.now }
+    {
+        if has_slot(key) {
+            let member = member_of(key);
+            let taken = clear(&mut self.slots, slot_of(key));
+            self.entries[member.get() as usize] = fresh_entry(&self.slots, member);
+            taken
+        } else {
+            None
         }
     }
 

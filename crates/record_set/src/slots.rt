@@ -1,7 +1,7 @@
-//! The slots in which records are kept: for each member one for its certificate, one for its note, and one for
-//! an accusation against it on each ring.
+//! The slots in which records are kept: for each member one for its certificate, one for its note, one for
+//! an accusation against it on each ring, and one for the accusation that removed it.
 
-ghost use Rattle.std.specs.Prelude.{◌≡◌, ℕ, ◌+◌, ◌*◌, ◌<◌, ◌≤◌, ◌++◌, length, IfOk, None, slice_index_or, slice_set, is_some, vec_capacity};
+ghost use Rattle.std.specs.Prelude.{◌≡◌, ℕ, ◌+◌, ◌*◌, ◌<◌, ◌≤◌, ◌++◌, ◌↔◌, length, true, IfOk, None, slice_index_or, slice_set, is_some, vec_capacity};
 ghost use Rattle.std.specs.Option.{option_copied};
 ghost use Rattle.ff_ids.specs.declared.TheConstants.{MAX_RINGS, MEMBERS, PAGE_MEMBERS};
 ghost use Rattle.ff_ids.specs.Masks.{bits_where};
@@ -16,8 +16,8 @@ use ff_ids::{
 use records::{Body, CertBody, Checked, Key, Record};
 use std::alloc::{AllocError, Global};
 
-/// How many slots a member has: one for each ring, and two.
-const SLOTS_EACH: usize = MAX_RINGS as usize + 2;
+/// How many slots a member has: one for each ring, and three.
+const SLOTS_EACH: usize = MAX_RINGS as usize + 3;
 /// How many slots there are at most.
 pub(crate) const SLOTS: usize = SLOTS_EACH * MEMBERS as usize;
 
@@ -35,7 +35,17 @@ pub(crate) fn member_of(key: &RecordKey) -> MemberId
 {
     match key {
         RecordKey::Certificate(member) | RecordKey::Note(member) => *member,
-        RecordKey::Accusation(accused, _) => *accused,
+        RecordKey::Accusation(accused, _) | RecordKey::Removal(accused) => *accused,
+    }
+}
+
+/// Whether there is a slot for the key: there are as many rings as a mask has.
+pub(crate) fn has_slot(key: &RecordKey) -> bool
+    ensures { (result ≡ true) ↔ HasSlot key.now }
+{
+    match key {
+        RecordKey::Accusation(_, ring) => ring.0 < MAX_RINGS,
+        _ => true,
     }
 }
 
@@ -50,6 +60,9 @@ pub(crate) fn slot_of(key: &RecordKey) -> usize
         RecordKey::Note(member) => certificate_slot(member.get() as usize) + 1,
         RecordKey::Accusation(accused, ring) => {
             certificate_slot(accused.get() as usize) + 2 + ring.0 as usize
+        }
+        RecordKey::Removal(member) => {
+            certificate_slot(member.get() as usize) + 2 + MAX_RINGS as usize
         }
     }
 }
@@ -126,13 +139,16 @@ pub(crate) fn reach(slots: &mut Vec<Option<Checked>>, slot: usize)
     }
 }
 
-/// Holds nothing in this slot any more, where the slots reach it.
-pub(crate) fn clear(slots: &mut Vec<Option<Checked>>, slot: usize)
+/// Holds nothing in this slot any more; the answer is what it held, if the slots reach it.
+pub(crate) fn clear(slots: &mut Vec<Option<Checked>>, slot: usize) -> Option<Checked>
+    ensures value { result ≡ slice_index_or slots.old.items slot None }
     ensures items { slots.new.items ≡ slice_set slots.old.items slot None }
     ensures room { vec_capacity slots.new ≡ vec_capacity slots.old }
 {
     if slot < slots.len() {
-        slots[slot] = None;
+        slots[slot].take()
+    } else {
+        None
     }
 }
 

@@ -19,7 +19,7 @@ use Rattle.schedule_texts.specs.declared.kit.KitText.{KitText}
 use Rattle.schedule_texts.specs.declared.kit.KitText.TheVariants as kit
 use Rattle.schedule_texts.specs.declared.kit_line.KitLine.{KitLine}
 use Rattle.schedule_texts.specs.declared.kit_line.KitLine.TheVariants as lines
-use Rattle.schedule_texts.specs.KitGrammar.{certifying, judge}
+use Rattle.schedule_texts.specs.KitGrammar.{after, certifying, judge}
 
 -- the line with a line feed, where so much has been read
 abbrev at : KitText → List ℕ → Result KitLine BadWord
@@ -55,7 +55,7 @@ unfolding judge_line key_in hex_on_literals
 heads = (refl, refl, refl, refl)
 
 abbrev kinded : KitText
-kinded = kit.Kinded group_1 (record { ots = W1; tree = H5; bottom = None })
+kinded = kit.Kinded group_1 (record { ots = W1; tree = H5; bottom = None }) false
 
 -- the kinds of a member's key come as in a secret's text
 kinds : (at (kit.Grouped group_1) (codes "kinds 4 5") ≡ Ok (lines.Kinds (record { ots = W4; tree = H5; bottom = None })))
@@ -66,13 +66,46 @@ kinds : (at (kit.Grouped group_1) (codes "kinds 4 5") ≡ Ok (lines.Kinds (recor
 unfolding judge_line key_in hex_on_literals
 kinds = (refl, refl, refl, refl, refl)
 
+-- below a line `heal`
+abbrev healing : KitText
+healing = kit.Kinded group_1 (record { ots = W1; tree = H5; bottom = None }) true
+
+heals : (at kinded (codes "heal 2 0") ≡ Ok (lines.Heal (record { every = 2; most = 0 })))
+    × (at kinded (codes "heal 1000 1000") ≡ Ok (lines.Heal (record { every = 1000; most = 1000 })))
+    × (at kinded (codes "heal 1 1") ≡ Err bad.Limit)
+    × (at kinded (codes "heal 1001 1") ≡ Err bad.Limit)
+    × (at kinded (codes "heal 2 1001") ≡ Err bad.Limit)
+    × (at kinded (codes "heal x 1") ≡ Err bad.Number)
+    × (at kinded (codes "heal 2 01") ≡ Err bad.Number)
+    × (at kinded (codes "heal 1 x") ≡ Err bad.Limit)
+    × (at kinded (codes "heal") ≡ Err bad.Count)
+    × (at kinded (codes "heal 2") ≡ Err bad.Count)
+    × (at kinded (codes "heal 2 1 1") ≡ Err bad.Count)
+    × (at kinded (codes "Heal 2 1") ≡ Err bad.Word)
+unfolding judge_line key_in hex_on_literals
+heals = (refl, refl, refl, refl, refl, refl, refl, refl, refl, refl, refl, refl)
+
+-- A line `heal` stands directly below the kinds alone, once.
+heal_places : (at healing (codes "heal 2 1") ≡ Err bad.Order)
+    × (at healing (codes "kinds 4 5") ≡ Err bad.Order)
+    × (at healing (codes "authority 00") ≡ Err bad.Order)
+    × (at kit.Headed (codes "heal 2 1") ≡ Err bad.Order)
+    × (at (kit.Grouped group_1) (codes "heal 1 x") ≡ Err bad.Order)
+    × (at (kit.Owned (record { group = group_1; member = 2; key = some_key })) (codes "heal 2 1") ≡ Err bad.Order)
+    × (at (one_named None) (codes "heal 2 1") ≡ Err bad.Order)
+    × (after (kit.Grouped group_1) (lines.Kinds (record { ots = W1; tree = H5; bottom = None })) ≡ kinded)
+    × (after kinded (lines.Heal (record { every = 2; most = 1 })) ≡ healing)
+unfolding judge_line key_in hex_on_literals
+heal_places = (refl, refl, refl, refl, refl, refl, refl, refl, refl)
+
 owners : (at kinded (codes "self 2 000000000000000000000000000000000000000000000000000000000000000A") ≡ Ok (lines.Own 2 (replicate 31 0 ++ 10 ∷ []) (new_key (key_from (record { ots = W1; tree = H5; bottom = None }) (replicate 31 0 ++ 10 ∷ [])))))
+    × (at healing (codes "self 2 000000000000000000000000000000000000000000000000000000000000000A") ≡ Ok (lines.Own 2 (replicate 31 0 ++ 10 ∷ []) (new_key (key_from (record { ots = W1; tree = H5; bottom = None }) (replicate 31 0 ++ 10 ∷ [])))))
     × (at kinded (codes "self 1024 00") ≡ Err bad.Limit)
     × (at kinded (codes "self 1 00") ≡ Err bad.Limit)
     × (at kinded (codes "self 1 -") ≡ Err bad.Hex)
     × (at kinded (codes "self 1") ≡ Err bad.Count)
 unfolding judge_line key_in hex_on_literals
-owners = (refl, refl, refl, refl, refl)
+owners = (refl, refl, refl, refl, refl, refl)
 
 abbrev authorized : KitText
 authorized = kit.Authorized (record { group = group_1; member = 2; key = some_key }) authority

@@ -93,18 +93,20 @@ two_levels = (refl, refl, refl, refl, refl, refl, refl, refl, refl, refl, refl, 
 authority_kinds : (below roster.Grouped (codes "kinds 4 5") ≡ Ok (roster_lines.Kinds (record { ots = W4; tree = H5; bottom = None })))
     × (below roster.Grouped (codes "kinds 4 5 5") ≡ Err bad.Count)
     × (below roster.Grouped (codes "kinds 3 5") ≡ Err bad.Limit)
+    × (below roster.Kinded (codes "heal 2 1") ≡ Err bad.Word)
 unfolding judge_line key_in hex_on_literals
-authority_kinds = (refl, refl, refl)
+authority_kinds = (refl, refl, refl, refl)
 
 secrets : (at secret.Kinded (codes "secret 00000000000000000000000000000000000000000000000000000000000000fF") ≡ Ok (secret_lines.Secret (replicate 31 0 ++ 255 ∷ [])))
     × (at secret.Kinded (codes "secret 00") ≡ Err bad.Limit)
     × (at secret.Kinded (codes "secret 0") ≡ Err bad.Hex)
     × (at secret.Kinded (codes "end") ≡ Err bad.Order)
+    × (at secret.Kinded (codes "heal 2 1") ≡ Err bad.Word)
     × (at secret.Given (codes "end") ≡ Ok secret_lines.End)
     × (at secret.Given (codes "cert 1 2 00") ≡ Err bad.Word)
     × (at secret.Ended (codes "end") ≡ Err bad.AfterEnd)
 unfolding judge_line key_in hex_on_literals
-secrets = (refl, refl, refl, refl, refl, refl, refl)
+secrets = (refl, refl, refl, refl, refl, refl, refl, refl)
 
 -- ## A store that moves
 

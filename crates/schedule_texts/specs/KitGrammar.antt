@@ -20,7 +20,7 @@ use Rattle.schedule_texts.specs.KitRows.{is_ended, kit_table, row_for}
 
 -- What holds of each value that a reader reaches: there are keys of the kinds, and there is a place for each number of a member.
 abbrev pub IsSound : KitText → Type 0
-IsSound (kit.Kinded g kinds) = is_in_profile kinds ≡ true
+IsSound (kit.Kinded g kinds heal) = is_in_profile kinds ≡ true
 IsSound (kit.Body owner authority named own) = length named ≡ MEMBERS
 IsSound _ = Unit {0}
 
@@ -47,8 +47,9 @@ certified_by _ form = form
 abbrev pub after : KitText → KitLine → KitText
 after form lines.Header = kit.Headed
 after form (lines.Group g) = kit.Grouped g
-after (kit.Grouped g) (lines.Kinds kinds) = kit.Kinded g kinds
-after (kit.Kinded g kinds) (lines.Own m secret own_key) = kit.Owned (record { group = g; member = m; key = public_key (secret_of own_key) })
+after (kit.Grouped g) (lines.Kinds kinds) = kit.Kinded g kinds false
+after (kit.Kinded g kinds heal) (lines.Heal h) = kit.Kinded g kinds true
+after (kit.Kinded g kinds heal) (lines.Own m secret own_key) = kit.Owned (record { group = g; member = m; key = public_key (secret_of own_key) })
 after (kit.Owned owner) (lines.Authority authority) = kit.Authorized owner authority
 after (kit.Authorized owner authority) (lines.Tick millis) = nobody owner authority
 after form (lines.Cert c) = certified_by c.rec.body form

@@ -52,7 +52,8 @@ kit-taken form first args l good h = table-taken kit_table sound form first args
 pub kit-reads : (form : KitText) (word : LineWord) (args : List (List ℕ)) → reads form word args ≡ row_line (Ok (row_of form word)) args
 kit-reads kit.Headed words.Group args = refl
 kit-reads (kit.Grouped g) words.Kinds args = refl
-kit-reads (kit.Kinded g kinds) words.Own args = refl
+kit-reads (kit.Kinded g kinds heal) words.Heal args = refl
+kit-reads (kit.Kinded g kinds heal) words.Own args = refl
 kit-reads (kit.Owned owner) words.Authority args = refl
 kit-reads (kit.Authorized owner authority) words.Tick args = refl
 kit-reads (kit.Body owner authority named own) words.Cert args = refl

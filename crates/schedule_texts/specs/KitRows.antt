@@ -1,6 +1,6 @@
 -- The table of the text of a member: each line word, where its line may stand, what the words behind it must be, what
 -- refuses them as a whole, and what line they are.
-use Rattle.std.specs.Prelude.{ℕ, Bool, true, false, not, ◌&&◌, is_ok, List, [], ◌∷◌, Option, Some, None, Result, Err, codes, slice_index_or, bytes_eq}
+use Rattle.std.specs.Prelude.{ℕ, Bool, true, false, not, ◌&&◌, if◌then◌else◌, is_ok, List, [], ◌∷◌, Option, Some, None, Result, Err, codes, slice_index_or, bytes_eq}
 use Rattle.ff_ids.specs.declared.TheConstants.{LAST_MEMBER}
 use Rattle.ff_ids.specs.declared.Group.{Group}
 use Rattle.lms_ots.specs.declared.kind.OtsKind.TheVariants.{W1}
@@ -42,12 +42,13 @@ abbrev pub is_ended : KitText → Bool
 is_ended kit.Ended = true
 is_ended _ = false
 
--- The group, the kinds, the own secret, the authority's key and the length of a tick come in this order, and behind
--- them certificates, as many as there are.
+-- The group, the kinds, a line `heal` or none, the own secret, the authority's key and the length of a tick come in this
+-- order, and behind them certificates, as many as there are.
 abbrev pub may_stand : KitText → LineWord → Bool
 may_stand kit.Headed words.Group = true
 may_stand (kit.Grouped g) words.Kinds = true
-may_stand (kit.Kinded g kinds) words.Own = true
+may_stand (kit.Kinded g kinds heal) words.Heal = not heal
+may_stand (kit.Kinded g kinds heal) words.Own = true
 may_stand (kit.Owned owner) words.Authority = true
 may_stand (kit.Authorized owner authority) words.Tick = true
 may_stand (kit.Body owner authority named own) words.Cert = true
@@ -73,6 +74,7 @@ signature word = test signature_field word
 abbrev pub fields : LineWord → Fields
 fields words.Group = group_shape
 fields words.Kinds = kinds_shape
+fields words.Heal = number_from 2 1000 and number_from 0 1000 and no_more
 fields words.Own = member_field and bytes_of 32 and no_more
 fields words.Authority = lms_key_field and no_more
 fields words.Tick = number_from 1 60000 and no_more
@@ -115,7 +117,7 @@ whole_fault form _ vs = None
 
 -- the key that the own secret gives; above the kinds, where no secret may stand, one of some kinds
 abbrev pub own_key : KitText → List ℕ → SignKey
-own_key (kit.Kinded g kinds) secret = new_key (key_from kinds secret)
+own_key (kit.Kinded g kinds heal) secret = new_key (key_from kinds secret)
 own_key form secret = new_key (key_from (kinds_of W1 H5 None) secret)
 
 -- a certificate, as what was checked under the authority's key in the group
@@ -136,6 +138,7 @@ abbrev pub line : (form : KitText) (word : LineWord) → Makes (fields word) Kit
 line form words.Group = λ t timeout period misses tag.
     lines.Group (group_of t timeout period misses tag)
 line form words.Kinds = λ wide high low. lines.Kinds (kinds_of wide high low)
+line form words.Heal = λ every most. lines.Heal (record { every = every; most = most })
 line form words.Own = λ m secret. lines.Own m secret (own_key form secret)
 line form words.Authority = λ key. lines.Authority key
 line form words.Tick = λ millis. lines.Tick millis
@@ -153,6 +156,7 @@ abbrev pub parts : KitLine → Parts LineWord fields
 parts lines.Header = Header
 parts (lines.Group g) = Line words.Group (group_values g)
 parts (lines.Kinds k) = Line words.Kinds (kinds_values k)
+parts (lines.Heal h) = Line words.Heal (h.every, (h.most, tt))
 parts (lines.Own m secret key) = Line words.Own (m, (secret, tt))
 parts (lines.Authority key) = Line words.Authority (key, tt)
 parts (lines.Tick millis) = Line words.Tick (millis, tt)
@@ -164,6 +168,7 @@ parts lines.End = Line words.End tt
 abbrev pub word_text : LineWord → List ℕ
 word_text words.Group = codes "group"
 word_text words.Kinds = codes "kinds"
+word_text words.Heal = codes "heal"
 word_text words.Own = codes "self"
 word_text words.Authority = codes "authority"
 word_text words.Tick = codes "tick"
@@ -171,7 +176,7 @@ word_text words.Cert = codes "cert"
 word_text words.End = codes "end"
 
 abbrev pub line_words : List LineWord
-line_words = words.Group ∷ words.Kinds ∷ words.Own ∷ words.Authority ∷ words.Tick ∷ words.Cert ∷ words.End ∷ []
+line_words = words.Group ∷ words.Kinds ∷ words.Heal ∷ words.Own ∷ words.Authority ∷ words.Tick ∷ words.Cert ∷ words.End ∷ []
 
 abbrev pub kit_table : Table KitText LineWord KitLine
 kit_table = record {
@@ -197,6 +202,9 @@ line_word word = word_among word_text line_words word
 abbrev pub fields_of : LineWord → List Test
 fields_of word = tests (fields word)
 
+abbrev pub heal_line : List (List ℕ) → KitLine
+heal_line args = line_from (fields words.Heal) (line kit.Start words.Heal) args
+
 abbrev pub own_line : Kinds → List (List ℕ) → KitLine
 own_line kinds args =
     line_from (fields words.Own) (λ m secret. lines.Own m secret (new_key (key_from kinds secret))) args
@@ -219,7 +227,9 @@ abbrev pub reads : KitText → LineWord → List (List ℕ) → Result KitLine B
 reads kit.Headed words.Group args = fields_line group_fields (λ ws. lines.Group (group_in ws)) args
 reads (kit.Grouped g) words.Kinds args =
     whole_line (kinds_fields args) kinds_fault_in (λ ws. lines.Kinds (kinds_in ws)) args
-reads (kit.Kinded g kinds) words.Own args = fields_line (fields_of words.Own) (own_line kinds) args
+reads (kit.Kinded g kinds heal) words.Heal args =
+    if not heal then fields_line (fields_of words.Heal) heal_line args else Err bad.Order
+reads (kit.Kinded g kinds heal) words.Own args = fields_line (fields_of words.Own) (own_line kinds) args
 reads (kit.Owned owner) words.Authority args =
     fields_line (fields_of words.Authority) authority_line args
 reads (kit.Authorized owner authority) words.Tick args =

@@ -8,7 +8,7 @@ ghost use Rattle.schedule_texts.specs.KitGrammar.{IsKit, IsSound, after, certifi
 
 use crate::kit_cert::cert_line;
 use crate::kit_line::{KitLine, LineWord};
-use crate::kit_read::{authority_line, line_word, own_line, tick_line};
+use crate::kit_read::{authority_line, heal_line, line_word, own_line, tick_line};
 use crate::{read_group, read_kinds};
 use ff_ids::{Group, MEMBERS, MemberId};
 use line_text::{BadWord, Form, LineFault, TableForm, Words, judge_by_table};
@@ -37,10 +37,12 @@ pub enum KitText {
     Grouped {
         group: Group,
     },
-    /// The kinds: the own number and secret come next.
+    /// The kinds, and a line `heal` or none: such a line comes next, where none was read, or the own number and
+    /// secret.
     Kinded {
         group: Group,
         kinds: Kinds,
+        has_heal: bool,
     },
     /// The own number and secret: the authority's key comes next.
     Owned {
@@ -180,6 +182,13 @@ impl TableForm for KitText {
         match (self, word) {
             (KitText::Headed, LineWord::Group) => Ok(KitLine::Group(read_group(args)?)),
             (KitText::Grouped { .. }, LineWord::Kinds) => Ok(KitLine::Kinds(read_kinds(args)?)),
+            (
+                KitText::Kinded {
+                    has_heal: false,
+                    ..
+                },
+                LineWord::Heal,
+            ) => Ok(heal_line(args)?),
             (KitText::Kinded { kinds, .. }, LineWord::Own) => own_line(alloc, *kinds, args),
             (KitText::Owned { .. }, LineWord::Authority) => Ok(authority_line(args)?),
             (KitText::Authorized { .. }, LineWord::Tick) => Ok(tick_line(args)?),
@@ -232,6 +241,12 @@ impl Form for KitText {
             (KitText::Grouped { group }, KitLine::Kinds(kinds)) => KitText::Kinded {
                 group,
                 kinds: *kinds,
+                has_heal: false,
+            },
+            (KitText::Kinded { group, kinds, .. }, KitLine::Heal(_)) => KitText::Kinded {
+                group,
+                kinds,
+                has_heal: true,
             },
             (KitText::Kinded { group, .. }, KitLine::Own { member, key, .. }) => KitText::Owned {
                 owner: Owner {

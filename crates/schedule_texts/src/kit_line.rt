@@ -1,6 +1,6 @@
 //! The lines that are read.
 
-use ff_ids::{Group, MemberId};
+use ff_ids::{Group, Heal, MemberId};
 use lms_tree::PublicKey;
 use records::Checked;
 use sign_keys::{Kinds, SignKey};
@@ -16,6 +16,10 @@ pub enum KitLine {
     /// `kinds W H`: the width, 1, 2, 4 or 8, and the height, 5, 10 or 15. Or `kinds W H H1`, of a key of two levels:
     /// H1 is the height of its bottom trees, its width is 4 or 8, and its heights are at most 15 together.
     Kinds(Kinds),
+    /// `heal N A`: nodes that lost each other come together again. Of each N rounds, 2 to 1,000, one goes to a member
+    /// out of the view; and within one timeout a node signs at most A notes, 0 to 1,000, as answers and to come back,
+    /// 0 for any number of them.
+    Heal(Heal),
     /// `self M SECRET`: the own number and the own secret in 32 bytes; and the key of these kinds that the secret
     /// gives, of which no index was handed out.
     Own {
@@ -41,6 +45,7 @@ pub enum KitLine {
 pub enum LineWord {
     Group,
     Kinds,
+    Heal,
     Own,
     Authority,
     Tick,

@@ -5,11 +5,11 @@ ghost use Rattle.sign_keys.specs.Kinds.{is_in_profile};
 ghost use Rattle.line_text.specs.Answers.{AnswersBy, refusal};
 ghost use Rattle.line_text.specs.Fields.{number_in};
 ghost use Rattle.line_text.specs.Frame.{behind, fields_line, first_word, word_or_bad};
-ghost use Rattle.schedule_texts.specs.KitRows.{TakesMemory, authority_line, fields_of, line_word, member, own_line, tick_line};
+ghost use Rattle.schedule_texts.specs.KitRows.{TakesMemory, authority_line, fields_of, heal_line, line_word, member, own_line, tick_line};
 
 use crate::kit_line::{KitLine, LineWord};
 use crate::take_lms_key;
-use ff_ids::{LAST_MEMBER, MemberId};
+use ff_ids::{Heal, LAST_MEMBER, MemberId};
 use line_text::{BadWord, LineFault, Words};
 use secrets::make_key;
 use sign_keys::Kinds;
@@ -23,6 +23,8 @@ pub(crate) fn line_word(word: &[u8]) -> Result<LineWord, BadWord>
         Ok(LineWord::Group)
     } else if word == b"kinds".as_slice() {
         Ok(LineWord::Kinds)
+    } else if word == b"heal".as_slice() {
+        Ok(LineWord::Heal)
     } else if word == b"self".as_slice() {
         Ok(LineWord::Own)
     } else if word == b"authority".as_slice() {
@@ -46,6 +48,18 @@ pub(crate) fn take_member(words: &mut Words) -> Result<MemberId, BadWord>
 {
     let number = words.number(0, LAST_MEMBER as u64)?;
     Ok(MemberId::new(number as u16))
+}
+
+pub(crate) fn heal_line(args: Words) -> Result<KitLine, BadWord>
+    ensures { result ≡ fields_line (fields_of LineWord.Heal) heal_line args.entry }
+{
+    let mut args = args.exactly(2)?;
+    let every = args.number(2, 1_000)?;
+    let most = args.number(0, 1_000)?;
+    match Heal::new(every as u16, most as u16) {
+        Some(heal) => Ok(KitLine::Heal(heal)),
+        None => unreachable!(),
+    }
 }
 
 /// The own number and secret, and the key that it gives. The words are judged before memory is asked for.

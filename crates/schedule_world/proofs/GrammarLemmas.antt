@@ -10,6 +10,7 @@ use Rattle.std.proofs.lemmas.Cmp.{nat_eq_equiv}
 use Rattle.std.proofs.lemmas.Map.Views.{Contains-from_any, list_any-from_Contains}
 use Rattle.std.proofs.lemmas.Slice.Eq.{bytes_eq-Decides}
 use Rattle.ff_ids.specs.declared.TheConstants.{LAST_MEMBER}
+use Rattle.ff_ids.specs.Heals.{Heal, IsWithinRanges}
 use Rattle.lms_ots.specs.declared.kind.OtsKind.{OtsKind}
 use Rattle.lms_ots.specs.declared.kind.OtsKind.TheVariants.{W1, W2, W4, W8}
 use Rattle.lms_ots.specs.Ots.{width}
@@ -64,6 +65,7 @@ world-words w ws l h =
 start_no : (word : LineWord) → may_stand world.Start word ≡ true → ⊥
 start_no words.Group may = cc
 start_no words.Kinds may = cc
+start_no words.Heal may = cc
 start_no words.Node may = cc
 start_no words.Liar may = cc
 start_no words.Begin may = cc
@@ -109,7 +111,7 @@ apart names n true is un = absurd (un (Contains-from_any {eq = nat_eq} eqb-true 
 apart names n false is un = refl
 
 new_member : (w : WorldText) (n : ℕ) → n ≤ LAST_MEMBER → may_name w n ≡ true → IsNewcomer (named w) n
-new_member (world.Roster t names node) n low may =
+new_member (world.Roster t heal names node) n low may =
     let q = and_parts _ _ may in
     record { range = low; few = ltb-true (length names) most_members q.0; unnamed = named_apart names n (not-true _ q.1) }
 new_member _ n low may = cc
@@ -122,7 +124,7 @@ newcomer-in w m range =
 
 -- A newcomer is in range, in a roster.
 pub newcomer-again : (w : WorldText) (m : ℕ) → is_roster w ≡ true → IsNewcomer (named w) m → InRange w (lines.Node m)
-newcomer-again (world.Roster t names node) m roster h =
+newcomer-again (world.Roster t heal names node) m roster h =
     let low = le-leb m LAST_MEMBER h.range in
     let few = lt-ltb (length names) most_members h.few in
     let other = apart names m (list_any (λ n. eqb m n) names) refl h.unnamed in
@@ -189,6 +191,12 @@ tree_again H15 low = absurd (omega (arith, low))
 pub kinds-again : (w : WorldText) (ots : OtsKind) (tree : TreeKind) (bottom : Option TreeKind) → height tree ≤ 10 → fits ots tree bottom ≡ true → InRange w (lines.Kinds ots tree bottom)
 kinds-again w ots tree None low fit = ((any_width ots, (tree_again tree low, tt)), fit)
 kinds-again w ots tree (Some bottom) low fit = ((any_width ots, (tree_again tree low, bottom_again ots tree bottom fit)), fit)
+
+-- ## Nodes that lost each other
+
+-- The numbers of a line `heal` are those of the option.
+pub heal-within : (w : WorldText) (h : Heal) → InRange w (lines.Heal h) → IsWithinRanges h
+heal-within w h range = record { some = range.0.0; few = range.0.1; bounded = range.1.0.1 }
 
 -- ## Epochs
 

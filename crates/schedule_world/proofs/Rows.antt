@@ -18,7 +18,7 @@ at w text = judge (record { number = 7; form = w }) (text ++ 10 ∷ [])
 
 -- below the kinds, in a group of tolerance 1; and below `begin`, with so many ticks before
 abbrev roster : List ℕ → Bool → List ℕ → Result WorldLine BadWord
-roster names node text = at (world.Roster 1 names node) text
+roster names node text = at (world.Roster 1 false names node) text
 
 abbrev body : ℕ → List ℕ → Result WorldLine BadWord
 body ticks text = at (world.Body 1 ticks) text
@@ -74,6 +74,42 @@ two_levels : (at (world.Grouped 1) (codes "kinds 4 5 5") ≡ Ok (lines.Kinds W4 
     × (at world.Headed (codes "kinds 4 10 5") ≡ Err bad.Order)
 unfolding judge_line hex_on_literals
 two_levels = (refl, refl, refl, refl, refl, refl, refl, refl, refl, refl, refl, refl, refl, refl)
+
+-- directly below the kinds, and directly below a line `heal`
+abbrev below_kinds : List ℕ → Result WorldLine BadWord
+below_kinds text = roster [] false text
+
+abbrev healing : List ℕ → Result WorldLine BadWord
+healing text = at (world.Roster 1 true [] false) text
+
+heals : (below_kinds (codes "heal 2 0") ≡ Ok (lines.Heal (record { every = 2; most = 0 })))
+    × (below_kinds (codes "heal 1000 1000") ≡ Ok (lines.Heal (record { every = 1000; most = 1000 })))
+    × (below_kinds (codes "heal 1 1") ≡ Err bad.Limit)
+    × (below_kinds (codes "heal 1001 1") ≡ Err bad.Limit)
+    × (below_kinds (codes "heal 2 1001") ≡ Err bad.Limit)
+    × (below_kinds (codes "heal x 1") ≡ Err bad.Number)
+    × (below_kinds (codes "heal 2 01") ≡ Err bad.Number)
+    × (below_kinds (codes "heal 1 x") ≡ Err bad.Limit)
+    × (below_kinds (codes "heal") ≡ Err bad.Count)
+    × (below_kinds (codes "heal 2") ≡ Err bad.Count)
+    × (below_kinds (codes "heal 2 1 1") ≡ Err bad.Count)
+    × (below_kinds (codes "Heal 2 1") ≡ Err bad.Word)
+unfolding judge_line hex_on_literals
+heals = (refl, refl, refl, refl, refl, refl, refl, refl, refl, refl, refl, refl)
+
+-- It stands nowhere else, and once.
+heal_places : (healing (codes "heal 2 1") ≡ Err bad.Order)
+    × (healing (codes "kinds 4 5") ≡ Err bad.Order)
+    × (healing (codes "begin") ≡ Err bad.Order)
+    × (healing (codes "node 7") ≡ Ok (lines.Node 7))
+    × (healing (codes "liar 7") ≡ Ok (lines.Liar 7))
+    × (at world.Headed (codes "heal 2 1") ≡ Err bad.Order)
+    × (at (world.Grouped 1) (codes "heal 2 1") ≡ Err bad.Order)
+    × (roster (4 ∷ []) true (codes "heal 2 1") ≡ Err bad.Order)
+    × (roster (4 ∷ []) false (codes "heal 1 x") ≡ Err bad.Order)
+    × (body 0 (codes "heal 2 1") ≡ Err bad.Order)
+unfolding judge_line hex_on_literals
+heal_places = (refl, refl, refl, refl, refl, refl, refl, refl, refl, refl)
 
 rosters : (roster [] false (codes "node 1023") ≡ Ok (lines.Node 1023))
     × (roster [] false (codes "node 1024") ≡ Err bad.Limit)
@@ -162,11 +198,13 @@ unfolding judge_line hex_on_literals
 others = (refl, refl, refl, refl, refl, refl, refl, refl, refl, refl, refl, refl)
 
 -- what is kept behind a line
-kept : (after (world.Grouped 1) (lines.Kinds W8 H5 None) ≡ world.Roster 1 [] false)
-    × (after (world.Roster 1 [] false) (lines.Liar 2) ≡ world.Roster 1 (2 ∷ []) false)
-    × (after (world.Roster 1 (2 ∷ []) false) (lines.Node 1) ≡ world.Roster 1 (2 ∷ 1 ∷ []) true)
-    × (after (world.Roster 1 (2 ∷ 1 ∷ []) true) (lines.Liar 3) ≡ world.Roster 1 (2 ∷ 1 ∷ 3 ∷ []) true)
-    × (after (world.Roster 1 (2 ∷ 1 ∷ []) true) lines.Begin ≡ world.Body 1 0)
+kept : (after (world.Grouped 1) (lines.Kinds W8 H5 None) ≡ world.Roster 1 false [] false)
+    × (after (world.Roster 1 false [] false) (lines.Heal (record { every = 2; most = 0 })) ≡ world.Roster 1 true [] false)
+    × (after (world.Roster 1 true [] false) (lines.Liar 2) ≡ world.Roster 1 true (2 ∷ []) false)
+    × (after (world.Roster 1 false [] false) (lines.Liar 2) ≡ world.Roster 1 false (2 ∷ []) false)
+    × (after (world.Roster 1 false (2 ∷ []) false) (lines.Node 1) ≡ world.Roster 1 false (2 ∷ 1 ∷ []) true)
+    × (after (world.Roster 1 true (2 ∷ 1 ∷ []) true) (lines.Liar 3) ≡ world.Roster 1 true (2 ∷ 1 ∷ 3 ∷ []) true)
+    × (after (world.Roster 1 true (2 ∷ 1 ∷ []) true) lines.Begin ≡ world.Body 1 0)
     × (after (world.Body 1 5) (lines.Tick 1 10) ≡ world.Body 1 15)
     × (after (world.Body 1 5) lines.End ≡ world.Ended)
-kept = (refl, refl, refl, refl, refl, refl, refl)
+kept = (refl, refl, refl, refl, refl, refl, refl, refl, refl)

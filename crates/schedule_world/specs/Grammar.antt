@@ -18,13 +18,13 @@ use Rattle.schedule_world.specs.Rows.{epoch_or_now, is_ended, most_members, most
 -- What holds of each value that a reader reaches.
 abbrev pub IsSound : WorldText → Type 0
 IsSound (world.Grouped t) = t ≤ MAX_TOLERANCE
-IsSound (world.Roster t names node) = t ≤ MAX_TOLERANCE
+IsSound (world.Roster t heal names node) = t ≤ MAX_TOLERANCE
 IsSound (world.Body t ticks) = (t ≤ MAX_TOLERANCE) × (ticks ≤ most_ticks)
 IsSound _ = Unit {0}
 
 -- the members that a roster has named
 abbrev pub named : WorldText → List ℕ
-named (world.Roster t names node) = names
+named (world.Roster t heal names node) = names
 named _ = []
 
 -- the ticks so far
@@ -44,7 +44,8 @@ spelled_words digits l = table.words_of world_table world.Start digits l
 
 -- ## Places and ranges
 
--- Where a line may stand: the header first, then the group, then the kinds, then the roster, then the others.
+-- Where a line may stand: the header first, then the group, then the kinds, then `heal` if it comes, then the roster, then the
+-- others.
 abbrev pub Stands : WorldText → WorldLine → Type 0
 Stands w l = table.Stands world_table w l
 
@@ -68,9 +69,14 @@ IsWorld w ws l = table.Spells world_table w ws l
 
 -- ## Behind a line
 
+-- a roster below a line `heal`
+abbrev pub below_heal : WorldText → WorldText
+below_heal (world.Roster t heal names node) = world.Roster t true names node
+below_heal w = w
+
 -- a roster with one more member, a node or a liar
 abbrev pub with_member : ℕ → Bool → WorldText → WorldText
-with_member m is_node (world.Roster t names node) = world.Roster t (names ++ m ∷ []) (node || is_node)
+with_member m is_node (world.Roster t heal names node) = world.Roster t heal (names ++ m ∷ []) (node || is_node)
 with_member m is_node w = w
 
 abbrev pub ticked : ℕ → WorldText → WorldText
@@ -80,7 +86,8 @@ ticked n w = w
 abbrev pub after : WorldText → WorldLine → WorldText
 after w lines.Header = world.Headed
 after w (lines.Group g) = world.Grouped g.t
-after w (lines.Kinds ots tree bottom) = world.Roster (tolerance w) [] false
+after w (lines.Kinds ots tree bottom) = world.Roster (tolerance w) false [] false
+after w (lines.Heal h) = below_heal w
 after w (lines.Node m) = with_member m true w
 after w (lines.Liar m) = with_member m false w
 after w lines.Begin = world.Body (tolerance w) 0

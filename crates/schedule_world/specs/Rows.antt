@@ -40,12 +40,17 @@ is_grouped (world.Grouped t) = true
 is_grouped _ = false
 
 abbrev pub is_roster : WorldText → Bool
-is_roster (world.Roster t names node) = true
+is_roster (world.Roster t heal names node) = true
 is_roster _ = false
+
+-- directly below the kinds: in a roster that has named nobody, and below no line `heal`
+abbrev pub is_below_kinds : WorldText → Bool
+is_below_kinds (world.Roster t heal names node) = not heal && (length names == 0)
+is_below_kinds _ = false
 
 -- in a roster, below a node
 abbrev pub has_node : WorldText → Bool
-has_node (world.Roster t names node) = node
+has_node (world.Roster t heal names node) = node
 has_node _ = false
 
 abbrev pub is_body : WorldText → Bool
@@ -59,7 +64,7 @@ is_ended _ = false
 -- the tolerance of the group, below it
 abbrev pub tolerance : WorldText → ℕ
 tolerance (world.Grouped t) = t
-tolerance (world.Roster t names node) = t
+tolerance (world.Roster t heal names node) = t
 tolerance (world.Body t ticks) = t
 tolerance _ = 0
 
@@ -69,7 +74,7 @@ most_members = 32
 
 -- The member may be named: in a roster with room for one more that hasn't named it.
 abbrev pub may_name : WorldText → ℕ → Bool
-may_name (world.Roster t names node) m = nat_lt (length names) most_members && not (list_any (λ n. m == n) names)
+may_name (world.Roster t heal names node) m = nat_lt (length names) most_members && not (list_any (λ n. m == n) names)
 may_name _ m = false
 
 -- how many ticks a schedule may have
@@ -81,11 +86,12 @@ abbrev pub ticks_left : WorldText → ℕ
 ticks_left (world.Body t ticks) = most_ticks - ticks
 ticks_left _ = 0
 
--- The group stands directly below the header, and the kinds directly below the group. The roster is next: nodes and
--- liars, and `begin` below a node. The other lines follow it.
+-- The group stands directly below the header, and the kinds directly below the group; directly below these a line `heal` may
+-- stand. The roster is next: nodes and liars, and `begin` below a node. The other lines follow it.
 abbrev pub may_stand : WorldText → LineWord → Bool
 may_stand w words.Group = is_headed w
 may_stand w words.Kinds = is_grouped w
+may_stand w words.Heal = is_below_kinds w
 may_stand w words.Node = is_roster w
 may_stand w words.Liar = is_roster w
 may_stand w words.Begin = has_node w
@@ -136,6 +142,7 @@ ring_of w = number_from 0 (2 * tolerance w)
 abbrev pub fields : WorldText → LineWord → Fields
 fields w words.Group = number_from 1 MAX_TOLERANCE and number_from 1 10000 and number_from 1 1000 and number_from 1 16 and bytes_of 16 and no_more
 fields w words.Kinds = width and height and maybe height
+fields w words.Heal = number_from 2 1000 and number_from 0 1000 and no_more
 fields w words.Node = newcomer w and no_more
 fields w words.Liar = newcomer w and no_more
 fields w words.Begin = no_more
@@ -168,6 +175,7 @@ whole_fault w _ vs = None
 abbrev pub line : (w : WorldText) (word : LineWord) → Makes (fields w word) WorldLine
 line w words.Group = λ t timeout period misses tag. lines.Group (record { t = t; timeout = timeout; period = period; misses = misses; tag = tag })
 line w words.Kinds = λ kind tree bottom. lines.Kinds kind tree bottom
+line w words.Heal = λ every most. lines.Heal (record { every = every; most = most })
 line w words.Node = λ m. lines.Node m
 line w words.Liar = λ m. lines.Liar m
 line w words.Begin = lines.Begin
@@ -192,6 +200,7 @@ abbrev pub parts : (w : WorldText) → WorldLine → Parts LineWord (fields w)
 parts w lines.Header = Header
 parts w (lines.Group g) = Line words.Group (g.t, (g.timeout, (g.period, (g.misses, (g.tag, tt)))))
 parts w (lines.Kinds kind tree bottom) = Line words.Kinds (kind, (tree, bottom))
+parts w (lines.Heal h) = Line words.Heal (h.every, (h.most, tt))
 parts w (lines.Node m) = Line words.Node (m, tt)
 parts w (lines.Liar m) = Line words.Liar (m, tt)
 parts w lines.Begin = Line words.Begin tt
@@ -214,6 +223,7 @@ parts w lines.End = Line words.End tt
 abbrev pub word_text : LineWord → List ℕ
 word_text words.Group = codes "group"
 word_text words.Kinds = codes "kinds"
+word_text words.Heal = codes "heal"
 word_text words.Node = codes "node"
 word_text words.Liar = codes "liar"
 word_text words.Begin = codes "begin"
@@ -235,8 +245,8 @@ word_text words.End = codes "end"
 
 abbrev pub line_words : List LineWord
 line_words =
-    words.Group ∷ words.Kinds ∷ words.Node ∷ words.Liar ∷ words.Begin ∷ words.Start ∷ words.Stop ∷ words.Arm ∷ words.Tick ∷ words.Leave
-    ∷ words.Deliver ∷ words.Flow ∷ words.Raw ∷ words.SignNote ∷ words.SignAccusation ∷ words.Give ∷ words.GiveAll ∷ words.View ∷ words.Monitor ∷ words.End ∷ []
+    words.Group ∷ words.Kinds ∷ words.Heal ∷ words.Node ∷ words.Liar ∷ words.Begin ∷ words.Start ∷ words.Stop ∷ words.Arm ∷ words.Tick
+    ∷ words.Leave ∷ words.Deliver ∷ words.Flow ∷ words.Raw ∷ words.SignNote ∷ words.SignAccusation ∷ words.Give ∷ words.GiveAll ∷ words.View ∷ words.Monitor ∷ words.End ∷ []
 
 abbrev pub world_table : Table WorldText LineWord WorldLine
 world_table = record {

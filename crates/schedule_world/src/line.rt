@@ -1,6 +1,6 @@
 //! The lines of the world form.
 
-use ff_ids::{Epoch, Group, MemberId, NoteBody, RingNo};
+use ff_ids::{Epoch, Group, Heal, MemberId, NoteBody, RingNo};
 use fields::{Bytes, Name};
 use lms_ots::OtsKind;
 use lms_tree::TreeKind;
@@ -20,6 +20,12 @@ pub enum WorldLine {
         ots: OtsKind,
         tree: TreeKind,
         bottom: Option<TreeKind>,
+    },
+    /// `heal N A`: nodes that lost each other come together again. Of each N rounds, 2 to 1,000, one goes to a member
+    /// out of the view; and within one timeout a node signs at most A notes, 0 to 1,000, as answers and to come back,
+    /// 0 for any number of them.
+    Heal {
+        heal: Heal,
     },
     /// `node M`: a correct member.
     Node {
@@ -112,6 +118,7 @@ pub enum WorldLine {
 pub enum LineWord {
     Group,
     Kinds,
+    Heal,
     Node,
     Liar,
     Begin,

@@ -43,6 +43,13 @@ impl Named {
         &self.slots[..self.held]
     }
 
+    /// Whether nobody is named.
+    pub fn is_empty(&self) -> bool
+        ensures { result ≡ (length self.now == 0) }
+    {
+        self.as_slice().is_empty()
+    }
+
     /// Whether one more may be named.
     pub fn has_room(&self) -> bool
         ensures { result ≡ nat_lt (length self.now) 32 }

@@ -8,7 +8,7 @@ ghost use Rattle.schedule_world.specs.Rows.{any_line, one_level, one_level_line,
 use crate::line::{LineWord, WorldLine};
 use crate::take::{take_height, take_newcomer, take_width};
 use crate::text::WorldText;
-use ff_ids::{Group, MAX_TOLERANCE};
+use ff_ids::{Group, Heal, MAX_TOLERANCE};
 use line_text::{BadWord, Words};
 use sign_keys::Kinds;
 
@@ -68,6 +68,18 @@ pub(crate) fn kinds_line(args: Words) -> Result<WorldLine, BadWord>
         two_level_line(args)
     } else {
         one_level_line(args)
+    }
+}
+
+pub(crate) fn heal_line(args: Words) -> Result<WorldLine, BadWord>
+    ensures { result ≡ any_line LineWord.Heal args.entry }
+{
+    let mut args = args.exactly(2)?;
+    let every = args.number(2, 1_000)?;
+    let most = args.number(0, 1_000)?;
+    match Heal::new(every as u16, most as u16) {
+        Some(heal) => Ok(WorldLine::Heal { heal }),
+        None => unreachable!(),
     }
 }
 

@@ -3,8 +3,8 @@
 ghost use Rattle.std.specs.Prelude.{◌≡◌, ◌+◌, ◌<◌, ◌≤◌, length};
 ghost use Rattle.ff_ids.specs.declared.TheConstants.{MAX_TOLERANCE};
 ghost use Rattle.line_text.specs.Answers.{AnswersBy};
-ghost use Rattle.schedule_world.specs.Rows.{TakesMemory, is_ended, may_name, may_stand, reads, row_for, ticks_left, tolerance, words_line, world_table};
-ghost use Rattle.schedule_world.specs.Grammar.{IsSound, IsWorld, after, named, ticks_of, ticked, with_member};
+ghost use Rattle.schedule_world.specs.Rows.{TakesMemory, is_below_kinds, is_ended, may_name, may_stand, reads, row_for, ticks_left, tolerance, words_line, world_table};
+ghost use Rattle.schedule_world.specs.Grammar.{IsSound, IsWorld, after, below_heal, named, ticks_of, ticked, with_member};
 
 use crate::line::{LineWord, WorldLine};
 use crate::named::Named;
@@ -12,7 +12,7 @@ use crate::read::{
     arm_line, deliver_line, flow_line, leave_line, lone_line, monitor_line, start_line, stop_line,
     tick_line, view_line,
 };
-use crate::roster::{group_line, kinds_line, liar_line, node_line};
+use crate::roster::{group_line, heal_line, kinds_line, liar_line, node_line};
 use crate::signing::{give_all_line, give_line, raw_line, sign_accusation_line, sign_note_line};
 use ff_ids::MemberId;
 use line_text::{BadWord, Form, LineFault, TableForm, Words, judge_by_table};
@@ -29,16 +29,40 @@ pub enum WorldText {
     /// The header: the group comes next.
     Headed,
     /// The group, of tolerance `t`: the kinds of keys come next.
-    Grouped { t: u8 },
-    /// The kinds, and these members, of which one is a node or none.
-    Roster { t: u8, named: Named, has_node: bool },
+    Grouped {
+        t: u8,
+    },
+    /// The kinds, a line `heal` or none, and these members, of which one is a node or none.
+    Roster {
+        t: u8,
+        has_heal: bool,
+        named: Named,
+        has_node: bool,
+    },
     /// The whole roster, and so many ticks.
-    Body { t: u8, ticks: u32 },
+    Body {
+        t: u8,
+        ticks: u32,
+    },
     /// The line `end`.
     Ended,
 }
 
 impl WorldText {
+    /// Whether the kinds were read last.
+    fn is_below_kinds(&self) -> bool
+        ensures { result ≡ is_below_kinds self.now }
+    {
+        match self {
+            WorldText::Roster {
+                has_heal,
+                named,
+                ..
+            } => !*has_heal && named.is_empty(),
+            _ => false,
+        }
+    }
+
     /// Whether a line with this word may stand here.
     fn may_stand(&self, word: LineWord) -> bool
         ensures { result ≡ may_stand self.now word }
@@ -46,6 +70,7 @@ impl WorldText {
         match word {
             LineWord::Group => matches!(self, WorldText::Headed),
             LineWord::Kinds => matches!(self, WorldText::Grouped { .. }),
+            LineWord::Heal => self.is_below_kinds(),
             LineWord::Node | LineWord::Liar => matches!(self, WorldText::Roster { .. }),
             LineWord::Begin => matches!(self, WorldText::Roster { has_node: true, .. }),
             _ => matches!(self, WorldText::Body { .. }),
@@ -91,6 +116,7 @@ impl WorldText {
         match word {
             LineWord::Group => Ok(group_line(args)?),
             LineWord::Kinds => Ok(kinds_line(args)?),
+            LineWord::Heal => Ok(heal_line(args)?),
             LineWord::Node => Ok(node_line(self, args)?),
             LineWord::Liar => Ok(liar_line(self, args)?),
             LineWord::Begin => Ok(lone_line(WorldLine::Begin, args)?),
@@ -109,6 +135,15 @@ impl WorldText {
             LineWord::View => Ok(view_line(args)?),
             LineWord::Monitor => Ok(monitor_line(self, args)?),
             LineWord::End => Ok(lone_line(WorldLine::End, args)?),
+        }
+    }
+
+    /// Notes a line `heal`, in a roster.
+    fn heal(&mut self)
+        ensures { self.new ≡ below_heal self.old }
+    {
+        if let WorldText::Roster { has_heal, .. } = self {
+            *has_heal = true;
         }
     }
 
@@ -172,6 +207,8 @@ impl TableForm for WorldText {
             Ok(LineWord::Group)
         } else if word == b"kinds".as_slice() {
             Ok(LineWord::Kinds)
+        } else if word == b"heal".as_slice() {
+            Ok(LineWord::Heal)
         } else if word == b"node".as_slice() {
             Ok(LineWord::Node)
         } else if word == b"liar".as_slice() {
@@ -256,10 +293,12 @@ impl Form for WorldText {
             WorldLine::Kinds { .. } => {
                 *self = WorldText::Roster {
                     t: self.tolerance(),
+                    has_heal: false,
                     named: Named::new(),
                     has_node: false,
                 }
             }
+            WorldLine::Heal { .. } => self.heal(),
             WorldLine::Node { member } => self.name(*member, true),
             WorldLine::Liar { member } => self.name(*member, false),
             WorldLine::Begin => {

@@ -129,7 +129,7 @@ one_more : (a : ℕ) (names : List ℕ) → names ≡ range_with_len 0 a → nam
 one_more a names is = ap (λ (some : List ℕ). some ++ a ∷ []) is ∙ sym (rw add-one (range_more 0 a a (omega arith)))
 
 abbrev roster : List ℕ → WorldText
-roster names = world.Roster 2 names true
+roster names = world.Roster 2 false names true
 
 liars_stand : (a n : ℕ) (names all : List ℕ) (rest : List WorldLine) → names ≡ range_with_len 0 a → all ≡ range_with_len 0 (a + n) → a + n ≤ 32 → IsSchedule (roster all) rest
     → IsSchedule (roster names) (map lines.Liar (range_with_len a n) ++ rest)
@@ -156,7 +156,7 @@ nodes_stand a (suc n) names all rest is whole few h =
     )
 
 -- the nodes, of which there is one
-all_nodes : (p : Plan) (rest : List WorldLine) → IsPlan p → IsSchedule (roster (nodes p)) rest → IsSchedule (world.Roster 2 [] false) (map lines.Node (nodes p) ++ rest)
+all_nodes : (p : Plan) (rest : List WorldLine) → IsPlan p → IsSchedule (roster (nodes p)) rest → IsSchedule (world.Roster 2 false [] false) (map lines.Node (nodes p) ++ rest)
 all_nodes p rest is h =
     let some = is.some in
     let within = is.within in
@@ -164,8 +164,8 @@ all_nodes p rest is h =
     let first = numbers-more 0 p.correct some in
     let whole : p.correct - 0 ≡ 1 + (p.correct - 1) = omega arith in
     let others = nodes_stand 1 (p.correct - 1) (0 ∷ []) (nodes p) rest refl (ap (range_with_len 0) whole) (omega arith) h in
-    let all : IsSchedule (world.Roster 2 [] false) (map lines.Node (0 ∷ numbers 1 p.correct) ++ rest) = (refl, newcomer-again (world.Roster 2 [] false) 0 refl (is_newcomer 0 (omega arith)), others) in
-    subst (λ (ms : List ℕ). IsSchedule (world.Roster 2 [] false) (map lines.Node ms ++ rest)) (sym first) all
+    let all : IsSchedule (world.Roster 2 false [] false) (map lines.Node (0 ∷ numbers 1 p.correct) ++ rest) = (refl, newcomer-again (world.Roster 2 false [] false) 0 refl (is_newcomer 0 (omega arith)), others) in
+    subst (λ (ms : List ℕ). IsSchedule (world.Roster 2 false [] false) (map lines.Node ms ++ rest)) (sym first) all
 
 -- ## The whole
 

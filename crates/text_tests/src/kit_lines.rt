@@ -2,7 +2,7 @@
 
 mod signed;
 
-use ff_ids::{KeyBytes, MemberId};
+use ff_ids::{Heal, KeyBytes, MemberId};
 use line_text::{BadWord, LineFault};
 use records::Body;
 use schedule::{Command, Line, Lines};
@@ -73,6 +73,27 @@ fn compare_own(rt: &impl Abort, alloc: Global, lines: &mut Lines) -> Result<(), 
 fn the_own_key_is_made(rt: HostRuntime) -> Result<(), Fail> {
     let mut lines = Lines::open(Command::Kit);
     compare_own(&rt, rt.alloc(), &mut lines)
+}
+
+/// The option is read below the kinds, once.
+fn compare_heal(rt: &impl Abort, alloc: Global, lines: &mut Lines) -> Result<(), Fail> {
+    take_head(alloc, lines)?;
+    assert_eq!(rt; fault_of(alloc, lines, b"heal 1 1\n"), bad(BadWord::Limit));
+    let Line::Kit(KitLine::Heal(heal)) = lines.line(alloc, b"heal 1000 0\n")? else {
+        panic!(rt; "the option");
+    };
+    assert_eq!(rt; Some(heal), Heal::new(1_000, 0));
+    assert_eq!(rt;
+        fault_of(alloc, lines, b"heal 1000 0\n"),
+        bad(BadWord::Order)
+    );
+    Ok(())
+}
+
+#[test]
+fn a_line_heal_is_read(rt: HostRuntime) -> Result<(), Fail> {
+    let mut lines = Lines::open(Command::Kit);
+    compare_heal(&rt, rt.alloc(), &mut lines)
 }
 
 /// What stands before the certificates.

@@ -19,7 +19,7 @@ const GROUP: &str = "group 1 4 1 2 00000000000000000000000000000000\n";
 const WIDE: &str = "group 16 4 1 2 00000000000000000000000000000000\n";
 
 /// What the line is refused for below those of the head.
-fn word_for(
+pub fn word_for(
     alloc: Global,
     command: Command,
     head: &[&str],

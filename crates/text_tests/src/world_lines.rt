@@ -1,6 +1,6 @@
 //! Lines that are read, those that take memory above all, and lines at the limits.
 
-use ff_ids::{Epoch, MemberId, RingNo};
+use ff_ids::{Epoch, Heal, MemberId, RingNo};
 use line_text::{BadWord, LineFault, Reader};
 use lms_ots::OtsKind;
 use lms_tree::TreeKind;
@@ -52,6 +52,26 @@ fn the_group_is_read(rt: HostRuntime) -> Result<(), Fail> {
     assert_eq!(rt; group.tag[15], 0xaf);
     assert_eq!(rt; group.timeout, 40);
     assert_eq!(rt; group.misses, 3);
+    Ok(())
+}
+
+#[test]
+fn a_line_heal_is_read_once(rt: HostRuntime) -> Result<(), Fail> {
+    let alloc = rt.alloc();
+    let mut lines = below_kinds(alloc)?;
+    assert_eq!(rt;
+        lines.line(alloc, b"heal 2 1001\n").err(),
+        bad(BadWord::Limit)
+    );
+    let WorldLine::Heal { heal } = lines.line(alloc, b"heal 2 1000\n")? else {
+        return Err(Fail::from("no option"));
+    };
+    assert_eq!(rt; Some(heal), Heal::new(2, 1_000));
+    assert_eq!(rt;
+        lines.line(alloc, b"heal 2 1000\n").err(),
+        bad(BadWord::Order)
+    );
+    lines.line(alloc, b"node 1\n")?;
     Ok(())
 }
 

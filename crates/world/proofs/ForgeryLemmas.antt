@@ -7,6 +7,7 @@ use Rattle.std.specs.Option.{option_map, option_or}
 use Rattle.std.specs.Result.{is_ok}
 use Rattle.std.proofs.lemmas.Bool.{cases_Bool, false≢true}
 use Rattle.ff_ids.specs.declared.Group.{Group}
+use Rattle.ff_ids.specs.Heals.{Heal}
 use Rattle.sign_keys.specs.declared.kinds.Kinds.{Kinds}
 use Rattle.records.specs.declared.keys.Key.{Key}
 use Rattle.records.specs.Keys.{verdict_of}
@@ -55,9 +56,9 @@ authority-signed s w told v body h = signed-is w None body _ (recs-bodies v.auth
 
 -- ---- what verifies
 
-pub setting-verifies : (s : Setting) (g : Group) (kinds : Kinds) (correct liars : List ℕ) (key : Key) (r : Record) → s ≡ setting_for g kinds correct liars → is_ok (verdict_of key (signed_bytes g.tag g.t r.body) r.signature) ≡ s.verifies key r
+pub setting-verifies : (s : Setting) (g : Group) (kinds : Kinds) (heal : Option Heal) (correct liars : List ℕ) (key : Key) (r : Record) → s ≡ setting_for g kinds heal correct liars → is_ok (verdict_of key (signed_bytes g.tag g.t r.body) r.signature) ≡ s.verifies key r
 unfolding setting_for
-setting-verifies s g kinds correct liars key r is = ap (λ (z : Setting). z.verifies key r) (sym is)
+setting-verifies s g kinds heal correct liars key r is = ap (λ (z : Setting). z.verifies key r) (sym is)
 
 swapped-test : (a b : Bool) → (not a && b) ≡ (b && not a)
 swapped-test true true = refl
@@ -108,10 +109,10 @@ items-push {Y = Y} f (y ∷ xs) x = ap (λ (zs : List Y). f y ∷ zs) (items-pus
 -- ---- tests
 
 pub verifies-as : (s : Setting) (g group : Group) (kinds : Kinds) (key k : Key) (r : Record) (b : Bool) → b ≡ is_ok (verdict_of key (signed_bytes group.tag group.t r.body) r.signature) → group ≡ g → key ≡ k
-    → s ≡ setting_for g kinds s.correct s.liars → b ≡ s.verifies k r
+    → s ≡ setting_for g kinds s.heal s.correct s.liars → b ≡ s.verifies k r
 verifies-as s g group kinds key k r b is same_group same_key made =
     is ∙ ap (λ (z : Group). is_ok (verdict_of key (signed_bytes z.tag z.t r.body) r.signature)) same_group
-    ∙ ap (λ (z : Key). is_ok (verdict_of z (signed_bytes g.tag g.t r.body) r.signature)) same_key ∙ setting-verifies s g kinds s.correct s.liars k r made
+    ∙ ap (λ (z : Key). is_ok (verdict_of z (signed_bytes g.tag g.t r.body) r.signature)) same_key ∙ setting-verifies s g kinds s.heal s.correct s.liars k r made
 
 pub forged-then : (s : Setting) (w : ModelWorld) (r : Record) (who : Owner) (signed verifies : Bool) → signed ≡ has_signed w who r.body → verifies ≡ s.verifies (s.key who) r → signed ≡ false → verifies ≡ is_forged_for s w r who
 forged-then s w r who signed verifies is can fails = sym (ap (λ (b : Bool). not b && verifies) fails) ∙ forged-is s w r who signed verifies is can

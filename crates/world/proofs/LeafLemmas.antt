@@ -1,9 +1,10 @@
 -- Leaves of the authority's key, as a world is opened.
-use Rattle.std.proofs.Common.{◌≡◌, ℕ, zero, suc, ◌+◌, ◌<◌, ◌≤◌, Bool, true, cond, eqb, ltb, List, [], ◌∷◌, ◌++◌, length, inl, inr, refl, ap, ◌∙◌, subst, arith, length-append}
+use Rattle.std.proofs.Common.{◌≡◌, ℕ, zero, suc, ◌+◌, ◌<◌, ◌≤◌, Bool, true, cond, eqb, ltb, List, [], ◌∷◌, ◌++◌, Option, length, inl, inr, refl, ap, ◌∙◌, subst, arith, length-append}
 use Rattle.std.specs.List.{list_any}
 use Rattle.std.proofs.lemmas.Bool.{cases_Bool}
 use Rattle.std.proofs.lemmas.Bool.Decides.{nat_tests}
 use Rattle.ff_ids.specs.declared.Group.{Group}
+use Rattle.ff_ids.specs.Heals.{Heal}
 use Rattle.sign_keys.specs.declared.kinds.Kinds.{Kinds}
 use Rattle.lms_tree.specs.declared.kind.TreeKind.{TreeKind}
 use Rattle.lms_tree.specs.declared.kind.TreeKind.TheVariants.{H5, H10, H15}
@@ -80,9 +81,9 @@ listed-left listed n here = omega (arith, few-listed listed n, below-here listed
 -- ---- the key
 
 -- Each that is listed has a leaf: so few are.
-pub has-leaf : (g : Group) (kinds : Kinds) (correct liars : List ℕ) (n : ℕ) (signing : KeyState) (v : Kept) → length correct + length liars ≤ 32 → Builds (setting_for g kinds correct liars) kinds n signing v → HasLeafFor (correct ++ liars) signing n
+pub has-leaf : (g : Group) (kinds : Kinds) (heal : Option Heal) (correct liars : List ℕ) (n : ℕ) (signing : KeyState) (v : Kept) → length correct + length liars ≤ 32 → Builds (setting_for g kinds heal correct liars) kinds n signing v → HasLeafFor (correct ++ liars) signing n
 unfolding setting_for
-has-leaf g kinds correct liars n signing v few h here =
+has-leaf g kinds heal correct liars n signing v few h here =
     let next : signing.next ≡ length (listed_below (correct ++ liars) n) = h.next in
     let leaves : index_count signing.key ≡ leaf_count kinds.tree = ap index_count h.key in
     omega (arith, next, leaves, few, listed-left (correct ++ liars) n here, length-append correct liars, many-leaves kinds.tree)

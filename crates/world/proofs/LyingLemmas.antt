@@ -1,5 +1,5 @@
 -- What is kept where a liar signs.
-use Rattle.std.proofs.Common.{◌≡◌, ℕ, zero, suc, ◌+◌, ◌<◌, ◌≤◌, Bool, true, false, ◌||◌, eqb, List, [], ◌∷◌, ◌++◌, Some, None, map, length, inl, inr, refl, ap, sym, ◌∙◌, subst, arith}
+use Rattle.std.proofs.Common.{◌≡◌, ℕ, zero, suc, ◌+◌, ◌<◌, ◌≤◌, Bool, true, false, ◌||◌, eqb, List, [], ◌∷◌, ◌++◌, Option, Some, None, map, length, inl, inr, refl, ap, sym, ◌∙◌, subst, arith}
 use Rattle.std.proofs.Math.ListN.{set}
 use Rattle.std.specs.Prelude.{filter_map}
 use Rattle.std.specs.List.{AllByRecursion, list_any, slice_get}
@@ -10,6 +10,7 @@ use Rattle.std.proofs.lemmas.Option.{slice_get-map}
 use Rattle.std.specs.Prelude.{Vec}
 use Rattle.std.specs.Global.{Global}
 use Rattle.ff_ids.specs.declared.Group.{Group}
+use Rattle.ff_ids.specs.Heals.{Heal}
 use Rattle.sign_keys.specs.declared.kinds.Kinds.{Kinds}
 use Rattle.sign_keys.specs.Keys.{KeySecret}
 use Rattle.datagram.specs.Spelling.{datagram_bytes}
@@ -181,16 +182,16 @@ holds-lied s w told v key at x later body name named h is found lied under =
 -- ---- the record
 
 -- The record of a signature is the one that the setting tells.
-own-record : (g : Group) (kinds : Kinds) (correct liars : List ℕ) (who : Owner) (key : KeySecret) (next index : ℕ) (body : Body) → key ≡ owner_key (setting_for g kinds correct liars).group kinds who → next ≡ index
-    → (signed_by g key next body).rec ≡ record_of (setting_for g kinds correct liars) (record { who = who; index = index; body = body })
+own-record : (g : Group) (kinds : Kinds) (heal : Option Heal) (correct liars : List ℕ) (who : Owner) (key : KeySecret) (next index : ℕ) (body : Body) → key ≡ owner_key (setting_for g kinds heal correct liars).group kinds who → next ≡ index
+    → (signed_by g key next body).rec ≡ record_of (setting_for g kinds heal correct liars) (record { who = who; index = index; body = body })
 unfolding setting_for
-own-record g kinds correct liars who key next index body own same = rw (own, same) refl
+own-record g kinds heal correct liars who key next index body own same = rw (own, same) refl
 
-signed-record : (s : Setting) (g : Group) (kinds : Kinds) (who : Owner) (key : KeySecret) (next index : ℕ) (body : Body) → s ≡ setting_for g kinds s.correct s.liars → key ≡ owner_key s.group kinds who → next ≡ index
+signed-record : (s : Setting) (g : Group) (kinds : Kinds) (who : Owner) (key : KeySecret) (next index : ℕ) (body : Body) → s ≡ setting_for g kinds s.heal s.correct s.liars → key ≡ owner_key s.group kinds who → next ≡ index
     → (signed_by g key next body).rec ≡ record_of s (record { who = who; index = index; body = body })
 signed-record s g kinds who key next index body made own same =
     subst (λ (z : Setting). (signed_by g key next body).rec ≡ record_of z (record { who = who; index = index; body = body })) (sym made)
-    (own-record g kinds s.correct s.liars who key next index body (own ∙ ap (λ (z : Setting). owner_key z.group kinds who) made) same)
+    (own-record g kinds s.heal s.correct s.liars who key next index body (own ∙ ap (λ (z : Setting). owner_key z.group kinds who) made) same)
 
 -- What a liar signs and keeps.
 pub record Signs (v : Kept) (at : ℕ) (x later : Liar) (body : Body) (checked : CheckedRecord) (name : List ℕ) (k : Vec ℕ Global) (g : Given) : Type 0 where

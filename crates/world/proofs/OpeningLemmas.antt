@@ -1,11 +1,12 @@
 -- A world that is being opened, member by member.
-use Rattle.std.proofs.Common.{◌≡◌, ℕ, zero, suc, ◌+◌, ◌≤◌, Bool, true, false, ◌||◌, cond, eqb, List, [], ◌∷◌, ◌++◌, Some, None, map, filter, length, inl, inr, refl, ap, sym, ◌∙◌, subst, arith, append-nil}
+use Rattle.std.proofs.Common.{◌≡◌, ℕ, zero, suc, ◌+◌, ◌≤◌, Bool, true, false, ◌||◌, cond, eqb, List, [], ◌∷◌, ◌++◌, Option, Some, None, map, filter, length, inl, inr, refl, ap, sym, ◌∙◌, subst, arith, append-nil}
 use Rattle.std.specs.Prelude.{OnOk, filter_map, Result, Ok, Err}
 use Rattle.std.specs.List.{AllByRecursion, list_any, range_with_len}
 use Rattle.std.proofs.lemmas.Bool.{cases_Bool}
 use Rattle.std.proofs.lemmas.List.Elements.{filter-append}
 use Rattle.ff_ids.specs.declared.TheConstants.{MAX_TOLERANCE, MEMBERS}
 use Rattle.ff_ids.specs.declared.Group.{Group}
+use Rattle.ff_ids.specs.Heals.{Heal}
 use Rattle.sign_keys.specs.declared.kinds.Kinds.{Kinds}
 use Rattle.lms_tree.specs.declared.key.PublicKey.{PublicKey}
 use Rattle.records.specs.declared.Record.{Record}
@@ -97,10 +98,10 @@ new-liar s kinds m secret x h own =
     }
 
 -- the record of the new certificate is the one that the setting tells
-new-record : (g : Group) (kinds : Kinds) (correct liars : List ℕ) (a : Certifying) (signing : KeyState) (m index : ℕ) (secret : KeySecret) → a.group ≡ g → signing.key ≡ owner_key g kinds None → signing.next ≡ index → secret ≡ owner_key g kinds (Some m)
-    → (new_certificate a signing m (public_key secret)).rec ≡ record_of (setting_for g kinds correct liars) (record { who = None; index = index; body = Certificate (certificate (setting_for g kinds correct liars) m) })
+new-record : (g : Group) (kinds : Kinds) (heal : Option Heal) (correct liars : List ℕ) (a : Certifying) (signing : KeyState) (m index : ℕ) (secret : KeySecret) → a.group ≡ g → signing.key ≡ owner_key g kinds None → signing.next ≡ index → secret ≡ owner_key g kinds (Some m)
+    → (new_certificate a signing m (public_key secret)).rec ≡ record_of (setting_for g kinds heal correct liars) (record { who = None; index = index; body = Certificate (certificate (setting_for g kinds heal correct liars) m) })
 unfolding setting_for
-new-record g kinds correct liars a signing m index secret group key next own = rw (group, key, next, own) refl
+new-record g kinds heal correct liars a signing m index secret group key next own = rw (group, key, next, own) refl
 
 all-push : {X : Type 0} (P : X → Type 0) (xs : List X) (x : X) → AllByRecursion P xs → P x → AllByRecursion P (xs ++ x ∷ [])
 all-push P [] x h new = (new, tt)
@@ -128,7 +129,7 @@ none-listed listed m not = listed-next listed m ∙ ap (λ (b : Bool). listed_be
 pub one-listed : (listed : List ℕ) (m : ℕ) → list_any (λ x. eqb x m) listed ≡ true → listed_below listed (m + 1) ≡ listed_below listed m ++ m ∷ []
 one-listed listed m is = listed-next listed m ∙ ap (λ (b : Bool). listed_below listed m ++ cond b (m ∷ []) []) is
 
-certified-more : (s : Setting) (kinds : Kinds) (m : ℕ) (signing : KeyState) (v : Kept) → s ≡ setting_for v.authority.group kinds s.correct s.liars
+certified-more : (s : Setting) (kinds : Kinds) (m : ℕ) (signing : KeyState) (v : Kept) → s ≡ setting_for v.authority.group kinds s.heal s.correct s.liars
     → (is_node s m || is_liar s m) ≡ true → Builds s kinds m signing v
     → recs_of (with_certificate v signing m (own_half v kinds m)).authority.certificates ≡ map (record_of s) (certified_from s 0 (listed_below (s.correct ++ s.liars) (m + 1)))
 certified-more s kinds m signing v made is h =
@@ -136,7 +137,7 @@ certified-more s kinds m signing v made is h =
     let signed : Signed = record { who = None; index = 0 + length listed; body = Certificate (certificate s m) } in
     let made_so : (new_certificate v.authority signing m (own_half v kinds m)).rec ≡ record_of s signed =
     subst (λ (z : Setting). (new_certificate v.authority signing m (own_half v kinds m)).rec ≡ record_of z (record { who = None; index = 0 + length listed; body = Certificate (certificate z m) })) (sym made)
-    (new-record v.authority.group kinds s.correct s.liars v.authority signing m (0 + length listed) (owner_key v.authority.group kinds (Some m)) refl (h.key ∙ ap (λ (g : Group). owner_key g kinds None) (sym h.group)) (h.next ∙ from-zero (length listed)) refl) in
+    (new-record v.authority.group kinds s.heal s.correct s.liars v.authority signing m (0 + length listed) (owner_key v.authority.group kinds (Some m)) refl (h.key ∙ ap (λ (g : Group). owner_key g kinds None) (sym h.group)) (h.next ∙ from-zero (length listed)) refl) in
     map-push (λ (x : CheckedRecord). x.rec) v.authority.certificates (new_certificate v.authority signing m (own_half v kinds m))
     ∙ ap (λ (z : List Record). z ++ (new_certificate v.authority signing m (own_half v kinds m)).rec ∷ []) h.certified
     ∙ ap (λ (z : Record). map (record_of s) (certified_from s 0 listed) ++ z ∷ []) made_so
@@ -166,6 +167,7 @@ builds-node s kinds m signing later v new world node not a step h =
       key = ap (λ k. k.key) step ∙ h.key;
       next = next-more s kinds m signing later v step (node-either s m node) h;
       group = h.group;
+      heal = h.heal;
       authority = h.authority;
       certified = certified-more s kinds m signing v world.made (node-either s m node) h;
       nodes = map-push (λ (x : HostState). x.member) v.hosts a.host ∙ ap (λ (z : List ℕ). z ++ a.host.member ∷ []) h.nodes ∙ ap (λ (k : ℕ). listed_below s.correct m ++ k ∷ []) a.member ∙ sym (one-listed s.correct m node);
@@ -187,6 +189,7 @@ builds-liar s kinds m signing later v new world not liar a step h =
       key = ap (λ k. k.key) step ∙ h.key;
       next = next-more s kinds m signing later v step (liar-either s m liar) h;
       group = h.group;
+      heal = h.heal;
       authority = h.authority;
       certified = certified-more s kinds m signing v world.made (liar-either s m liar) h;
       nodes = h.nodes ∙ sym (none-listed s.correct m not);
@@ -206,6 +209,7 @@ builds-none s kinds m signing v no_node no_liar h =
       key = h.key;
       next = h.next ∙ ap length (sym nobody);
       group = h.group;
+      heal = h.heal;
       authority = h.authority;
       certified = h.certified ∙ ap (λ (z : List ℕ). map (record_of s) (certified_from s 0 z)) (sym nobody);
       nodes = h.nodes ∙ sym (none-listed s.correct m no_node);
@@ -233,52 +237,53 @@ mapped-none f xs none = ap (map f) none
 
 -- ---- the setting that is opened
 
-node-made : (g : Group) (kinds : Kinds) (correct liars : List ℕ) (m : ℕ) → is_node (setting_for g kinds correct liars) m ≡ list_any (λ x. eqb x m) correct
+node-made : (g : Group) (kinds : Kinds) (heal : Option Heal) (correct liars : List ℕ) (m : ℕ) → is_node (setting_for g kinds heal correct liars) m ≡ list_any (λ x. eqb x m) correct
 unfolding setting_for
-node-made g kinds correct liars m = refl
+node-made g kinds heal correct liars m = refl
 
-pub is-node-made : (g : Group) (kinds : Kinds) (correct liars : List ℕ) (s : Setting) → s ≡ setting_for g kinds correct liars → (m : ℕ) (b : Bool) → b ≡ list_any (λ x. eqb x m) correct → is_node s m ≡ b
-is-node-made g kinds correct liars s is m b here = ap (λ (z : Setting). is_node z m) is ∙ node-made g kinds correct liars m ∙ sym here
+pub is-node-made : (g : Group) (kinds : Kinds) (heal : Option Heal) (correct liars : List ℕ) (s : Setting) → s ≡ setting_for g kinds heal correct liars → (m : ℕ) (b : Bool) → b ≡ list_any (λ x. eqb x m) correct → is_node s m ≡ b
+is-node-made g kinds heal correct liars s is m b here = ap (λ (z : Setting). is_node z m) is ∙ node-made g kinds heal correct liars m ∙ sym here
 
-liar-made : (g : Group) (kinds : Kinds) (correct liars : List ℕ) (m : ℕ) → is_liar (setting_for g kinds correct liars) m ≡ list_any (λ x. eqb x m) liars
+liar-made : (g : Group) (kinds : Kinds) (heal : Option Heal) (correct liars : List ℕ) (m : ℕ) → is_liar (setting_for g kinds heal correct liars) m ≡ list_any (λ x. eqb x m) liars
 unfolding setting_for
-liar-made g kinds correct liars m = refl
+liar-made g kinds heal correct liars m = refl
 
-pub is-liar-made : (g : Group) (kinds : Kinds) (correct liars : List ℕ) (s : Setting) → s ≡ setting_for g kinds correct liars → (m : ℕ) (b : Bool) → b ≡ list_any (λ x. eqb x m) liars → is_liar s m ≡ b
-is-liar-made g kinds correct liars s is m b here = ap (λ (z : Setting). is_liar z m) is ∙ liar-made g kinds correct liars m ∙ sym here
+pub is-liar-made : (g : Group) (kinds : Kinds) (heal : Option Heal) (correct liars : List ℕ) (s : Setting) → s ≡ setting_for g kinds heal correct liars → (m : ℕ) (b : Bool) → b ≡ list_any (λ x. eqb x m) liars → is_liar s m ≡ b
+is-liar-made g kinds heal correct liars s is m b here = ap (λ (z : Setting). is_liar z m) is ∙ liar-made g kinds heal correct liars m ∙ sym here
 
-pub is-apart : (g : Group) (kinds : Kinds) (correct liars : List ℕ) (s : Setting) → s ≡ setting_for g kinds correct liars → IsApart correct liars → (m : ℕ) → is_node s m ≡ true → is_liar s m ≡ false
-is-apart g kinds correct liars s is apart m node =
-    is-liar-made g kinds correct liars s is m false (sym (apart m (sym (is-node-made g kinds correct liars s is m (list_any (λ x. eqb x m) correct) refl) ∙ node)))
+pub is-apart : (g : Group) (kinds : Kinds) (heal : Option Heal) (correct liars : List ℕ) (s : Setting) → s ≡ setting_for g kinds heal correct liars → IsApart correct liars → (m : ℕ) → is_node s m ≡ true → is_liar s m ≡ false
+is-apart g kinds heal correct liars s is apart m node =
+    is-liar-made g kinds heal correct liars s is m false (sym (apart m (sym (is-node-made g kinds heal correct liars s is m (list_any (λ x. eqb x m) correct) refl) ∙ node)))
 
-made-so : (g : Group) (kinds : Kinds) (correct liars : List ℕ) → setting_for g kinds correct liars ≡ setting_for g kinds (setting_for g kinds correct liars).correct (setting_for g kinds correct liars).liars
+made-so : (g : Group) (kinds : Kinds) (heal : Option Heal) (correct liars : List ℕ) → setting_for g kinds heal correct liars ≡ setting_for g kinds (setting_for g kinds heal correct liars).heal (setting_for g kinds heal correct liars).correct (setting_for g kinds heal correct liars).liars
 unfolding setting_for
-made-so g kinds correct liars = refl
+made-so g kinds heal correct liars = refl
 
-pub is-world : (g : Group) (kinds : Kinds) (correct liars : List ℕ) (s : Setting) → s ≡ setting_for g kinds correct liars → g.t ≤ MAX_TOLERANCE → is_in_profile kinds ≡ true → IsWorld s g kinds
-is-world g kinds correct liars s is few profile = subst (λ (z : Setting). IsWorld z g kinds) (sym is) (record { made = made-so g kinds correct liars; few = few; profile = profile })
+pub is-world : (g : Group) (kinds : Kinds) (heal : Option Heal) (correct liars : List ℕ) (s : Setting) → s ≡ setting_for g kinds heal correct liars → g.t ≤ MAX_TOLERANCE → is_in_profile kinds ≡ true → IsWorld s g kinds
+is-world g kinds heal correct liars s is few profile = subst (λ (z : Setting). IsWorld z g kinds) (sym is) (record { made = made-so g kinds heal correct liars; few = few; profile = profile })
 
 -- ---- the beginning and the end
 
 -- An authority that has certified nobody.
-abbrev pub new_authority : Group → PublicKey → Certifying
-new_authority g key = record { group = g; key = key; certificates = [] }
+abbrev pub new_authority : Group → Option Heal → PublicKey → Certifying
+new_authority g heal key = record { group = g; heal = heal; key = key; certificates = [] }
 
 -- Below 0 there is nobody.
-pub builds-first : (g : Group) (kinds : Kinds) (correct liars : List ℕ) (signing : KeyState) (public : PublicKey) (v : Kept) → signing.key ≡ owner_key g kinds None → signing.next ≡ 0 → keys.Lms public ≡ public_key signing.key → v.authority ≡ new_authority g public
-    → v.hosts ≡ [] → v.liars ≡ [] → v.sent ≡ [] → v.flowed ≡ 0 → v.named ≡ [] → v.tested ≡ [] → AreKept v.counts nothing_counted → Builds (setting_for g kinds correct liars) kinds 0 signing v
+pub builds-first : (g : Group) (kinds : Kinds) (heal : Option Heal) (correct liars : List ℕ) (signing : KeyState) (public : PublicKey) (v : Kept) → signing.key ≡ owner_key g kinds None → signing.next ≡ 0 → keys.Lms public ≡ public_key signing.key → v.authority ≡ new_authority g heal public
+    → v.hosts ≡ [] → v.liars ≡ [] → v.sent ≡ [] → v.flowed ≡ 0 → v.named ≡ [] → v.tested ≡ [] → AreKept v.counts nothing_counted → Builds (setting_for g kinds heal correct liars) kinds 0 signing v
 unfolding setting_for
-builds-first g kinds correct liars signing public v key next half authority nobody no_liar sent flowed named tested counts =
+builds-first g kinds heal correct liars signing public v key next half authority nobody no_liar sent flowed named tested counts =
     record {
       key = key;
       next = next;
       group = ap (λ a. a.group) authority;
+      heal = ap (λ a. a.heal) authority;
       authority = ap keys.Lms (ap (λ a. a.key) authority) ∙ half ∙ ap public_key key;
       certified = ap (λ a. recs_of a.certificates) authority;
       nodes = ap (map (λ x. x.member)) nobody;
-      hosts = subst (AllByRecursion (HoldsPlace (setting_for g kinds correct liars) kinds (begun_world (setting_for g kinds correct liars)))) (sym nobody) tt;
+      hosts = subst (AllByRecursion (HoldsPlace (setting_for g kinds heal correct liars) kinds (begun_world (setting_for g kinds heal correct liars)))) (sym nobody) tt;
       lying = ap (map (λ x. x.member)) no_liar;
-      liars = subst (AllByRecursion (HoldsLiar (setting_for g kinds correct liars) kinds (begun_world (setting_for g kinds correct liars)))) (sym no_liar) tt;
+      liars = subst (AllByRecursion (HoldsLiar (setting_for g kinds heal correct liars) kinds (begun_world (setting_for g kinds heal correct liars)))) (sym no_liar) tt;
       sent = sent;
       flowed = flowed;
       named = named;
@@ -315,7 +320,7 @@ holds-built s kinds n signing v all world ranges apart h =
       kinds = kinds;
       world = world;
       ranges = ranges;
-      authority = record { key = h.authority; certified = h.certified ∙ sym (all-certified s n all) };
+      authority = record { heal = h.heal; key = h.authority; certified = h.certified ∙ sym (all-certified s n all) };
       issued = first-issued s;
       apart = apart;
       idle = λ m other. refl;

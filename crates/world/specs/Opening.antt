@@ -39,6 +39,7 @@ pub record Builds (s : Setting) (kinds : Kinds) (n : ℕ) (signing : KeyState) (
   pub key : signing.key ≡ owner_key s.group kinds None
   pub next : signing.next ≡ length (listed_below (s.correct ++ s.liars) n)
   pub group : v.authority.group ≡ s.group
+  pub heal : v.authority.heal ≡ s.heal
   pub authority : keys.Lms v.authority.key ≡ s.key None
   pub certified : recs_of v.authority.certificates ≡ map (record_of s) (certified_from s 0 (listed_below (s.correct ++ s.liars) n))
   pub nodes : map (λ x. x.member) v.hosts ≡ listed_below s.correct n

@@ -20,7 +20,7 @@ use crate::World;
 use crate::counts::Counts;
 use crate::forgery::Tested;
 use crate::liar::Liar;
-use ff_ids::{Group, MEMBERS, MemberId};
+use ff_ids::{Group, Heal, MEMBERS, MemberId};
 use fields::NoMemory;
 use indexmap::IndexMap;
 use lms_ots::OtsKind;
@@ -85,8 +85,8 @@ fn authority_key(
 impl World {
     /// The world of these nodes and liars, with keys of these kinds: what the line `begin` makes. Where `bottom` is given, the
     /// members' keys have two levels, with such bottom trees below one of `tree`, and there are keys of these kinds; the
-    /// authority's has one. There is a node; the numbers of both lists are distinct, and at most 32 in all; and `tree` has
-    /// 5 or 10 levels.
+    /// authority's has one. Where `heal` is given, nodes that lost each other come together again. There is a node; the
+    /// numbers of both lists are distinct, and at most 32 in all; and `tree` has 5 or 10 levels.
     pub fn open(
         alloc: Global,
         group: Group,
@@ -95,6 +95,7 @@ impl World {
         nodes: &[MemberId],
         liars: &[MemberId],
         bottom: Option<TreeKind>,
+        heal: Option<Heal>,
     ) -> Result<World, NoMemory>
         requires group { IsGroup group }
         requires some { 0 < length nodes.now }
@@ -103,14 +104,14 @@ impl World {
         requires profile { fits ots tree bottom ≡ true }
         requires apart { IsApart nodes.now liars.now }
         ensures { IfOk result
-            (λ world. let s = setting_for group (kinds_with ots tree bottom) nodes.now liars.now in
-            Holds s (begun_world s) [] world) }
+            (λ world. let s = setting_for group (kinds_with ots tree bottom) heal nodes.now liars.now
+            in Holds s (begun_world s) [] world) }
     {
         let kinds = Kinds { ots, tree, bottom };
         let (mut signing, public) = authority_key(alloc, &group, ots, tree)?;
         let mut world = World {
             alloc,
-            authority: Authority::new(alloc, group, public),
+            authority: Authority::new(alloc, group, heal, public),
             hosts: Vec::new(alloc),
             liars: Vec::new(alloc),
             sent: Outbox::new(alloc),
@@ -200,13 +201,15 @@ impl World {
         requires left { HasLeafFor (nodes.now ++ liars.now) signing.old member }
         requires few { self.old.authority.group.t ≤ MAX_TOLERANCE }
         ensures builds { (s : Setting)
-            → s ≡ setting_for self.old.authority.group kinds nodes.now liars.now
+            → s ≡ setting_for self.old.authority.group kinds self.old.authority.heal
+            nodes.now liars.now
             → IsApart nodes.now liars.now
             → Builds s kinds member signing.old self.old
             → OnOk result (Builds s kinds (member + 1) signing.new self.new) }
         ensures key { OnOk result
             (keys.Lms self.new.authority.key ≡ public_key signing.new.key) }
         ensures group { OnOk result (self.new.authority.group ≡ self.old.authority.group) }
+        ensures heal { OnOk result (self.new.authority.heal ≡ self.old.authority.heal) }
     {
         if nodes.contains(&member) {
             return self.add_node(kinds, member, signing);

@@ -4,7 +4,8 @@ use Rattle.ff_ids.proofs.MaskLemmas.{below-rings}
 use Rattle.std.proofs.lemmas.Bool.{and_parts, cases_Bool, ltb-true}
 use Rattle.std.proofs.lemmas.Bool.Decides.{nat_tests}
 use Rattle.std.proofs.lemmas.Nat.{pow_pos}
-use Rattle.ff_ids.specs.declared.TheConstants.{MAX_TOLERANCE}
+use Rattle.ff_ids.specs.declared.TheConstants.{MAX_RINGS, MAX_TOLERANCE}
+use Rattle.ff_ids.specs.declared.Mask.{Mask}
 use Rattle.ff_ids.specs.Masks.{good_mask, ring_count}
 use Rattle.ports.specs.DiskSteps.{Came, runs}
 use Rattle.ports.specs.MemoryDisk.{DiskState}
@@ -14,6 +15,7 @@ use Rattle.epoch_store.specs.declared.Stored.{Stored}
 use Rattle.epoch_store.specs.declared.seat.Seat.{Seat}
 use Rattle.epoch_store.specs.Seat.{next_seat}
 use Rattle.epoch_store.specs.Asked.{put_calls}
+use Rattle.epoch_store.specs.Store.{IsEntry}
 use Rattle.epoch_store.specs.Placed.{PlacedStore, put_on}
 use Rattle.signer.specs.Signing.{MayComeNext, stored_after}
 use Rattle.signer.proofs.StepLemmas.{next_follows, next_index, next_is_entry}
@@ -36,10 +38,11 @@ use Rattle.world_host.proofs.DiskPuts.{put_as_told}
 
 -- ---- what may be signed next may be put
 
-may-come : (s : Setting) (kept : Stored) (body : Body) → s.group.t ≤ MAX_TOLERANCE → MaySign s kept body → MayComeNext kept body
-may-come s kept (Certificate c) few may = tt
-may-come s kept (Note n) few may = (may.follows, below-rings s.group.t n.mask.0 few may.rings)
-may-come s kept (Accusation a) few may = tt
+may-come : (s : Setting) (kept : Stored) (body : Body) → s.group.t ≤ MAX_TOLERANCE → IsEntry kept → MaySign s kept body → MayComeNext kept body
+may-come s kept (Certificate c) few entry may = tt
+may-come s kept (Note n) few entry may =
+    (may.follows, elim may.rings [ inl same ↦ subst (λ (m : Mask). m.0 < 2 ^ MAX_RINGS) (sym same) entry.mask_small | inr below ↦ below-rings s.group.t n.mask.0 few below ])
+may-come s kept (Accusation a) few entry may = tt
 
 left-below : (next indexes : ℕ) → next ≤ indexes → eqb next indexes ≡ false → next < indexes
 left-below next indexes within apart = grind (arith, nat_tests, within, apart)
@@ -47,10 +50,11 @@ left-below next indexes within apart = grind (arith, nat_tests, within, apart)
 put-next : (tag : List ℕ) (s : Setting) (body : Body) (d : DiskState) (e : Disk) → s.group.t ≤ MAX_TOLERANCE → s.indexes ≤ 32768 → HoldsDisk tag s.indexes d e → MaySign s e.state body
     → ComesAs tag s.indexes (runs (put_calls (seat_of tag e) (stored_after e.state body)) d) (put_passes e) (after_put (stored_after e.state body) e) (stopped_in_put (stored_after e.state body) e)
 put-next tag s body d e few small h may =
-    let next : MayComeNext e.state body = may-come s e.state body few may in
+    let entry : IsEntry e.state = entry_last tag e.state e.older h.chain in
+    let next : MayComeNext e.state body = may-come s e.state body few entry may in
     let left : e.state.next < s.indexes = left-below e.state.next s.indexes h.within may.left in
     let rises : (stored_after e.state body).next ≡ e.state.next + 1 = next_index e.state body in
-    put_as_told tag s.indexes d e (stored_after e.state body) h (next_is_entry e.state body (entry_last tag e.state e.older h.chain) (omega (arith, left, small)) next) (next_follows e.state body next) rises (omega (arith, rises, left))
+    put_as_told tag s.indexes d e (stored_after e.state body) h (next_is_entry e.state body entry (omega (arith, left, small)) next) (next_follows e.state body next) rises (omega (arith, rises, left))
 
 -- ---- a store on the one disk takes what the other does
 
@@ -127,6 +131,6 @@ pub start_as_told : StartsAsTold
 start_as_told tag seed certificates s d e few small h may =
     let body : Body = first_note s e.state in
     let one = one-started s seed certificates e.state in
-    let signs : MaySign s e.state body = record { follows = refl; left = not-false _ may; rings = first-rings s.group.t e.state.mask.0 } in
+    let signs : MaySign s e.state body = record { follows = refl; left = not-false _ may; rings = inr (first-rings s.group.t e.state.mask.0) } in
     let P : Stored → Type 0 = λ kept. ComesAs tag s.indexes (runs (put_calls (seat_of tag e) kept) d) (put_passes e) (after_put kept e) (stopped_in_put kept e) in
     subst P (sym one.stored) (put-next tag s body d e few small h signs)

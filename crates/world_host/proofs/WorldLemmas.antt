@@ -4,6 +4,7 @@ use Rattle.std.specs.Prelude.{IfOk, IfSome}
 use Rattle.ff_ids.specs.declared.TheConstants.{MAX_TOLERANCE}
 use Rattle.fields.specs.declared.NoMemory.{NoMemory}
 use Rattle.ff_ids.specs.declared.Group.{Group}
+use Rattle.ff_ids.specs.Heals.{Heal}
 use Rattle.lms_ots.specs.declared.OtsKind.{OtsKind}
 use Rattle.lms_tree.specs.declared.TreeKind.{TreeKind}
 use Rattle.lms_tree.specs.declared.key.PublicKey.{PublicKey}
@@ -56,28 +57,30 @@ few-indexes s g kinds w =
 abbrev authority_secret : Group → Kinds → Secret
 authority_secret g kinds = record { tree = kinds.tree; ots = kinds.ots; id = key_id (owner_secret g None); seed = key_seed (owner_secret g None) }
 
-made-by : (g : Group) (ots : OtsKind) (tree : TreeKind) (bottom : Option TreeKind) (correct liars : List ℕ) (m : ℕ)
-    → let kinds : Kinds = record { ots = ots; tree = tree; bottom = bottom } in setting_of (setting_for g kinds correct liars) m ≡ node.setting_of g m (public_of (authority_secret g kinds)) (owner_key g kinds (Some m))
+made-by : (g : Group) (ots : OtsKind) (tree : TreeKind) (bottom : Option TreeKind) (heal : Option Heal) (correct liars : List ℕ) (m : ℕ)
+    → let kinds : Kinds = record { ots = ots; tree = tree; bottom = bottom } in
+    setting_of (setting_for g kinds heal correct liars) m ≡ node.setting_of g heal m (public_of (authority_secret g kinds)) (owner_key g kinds (Some m))
 unfolding setting_for node.setting_of
-made-by g ots tree None correct liars m = refl
-made-by g ots tree (Some bottom) correct liars m = refl
+made-by g ots tree None heal correct liars m = refl
+made-by g ots tree (Some bottom) heal correct liars m = refl
 
-own-made : (g : Group) (kinds : Kinds) (s : Setting) (m : ℕ) → setting_of (setting_for g kinds s.correct s.liars) m ≡ node.setting_of g m (public_of (authority_secret g kinds)) (owner_key g kinds (Some m))
-own-made g kinds s m = made-by g kinds.ots kinds.tree kinds.bottom s.correct s.liars m
+own-made : (g : Group) (kinds : Kinds) (s : Setting) (m : ℕ)
+    → setting_of (setting_for g kinds s.heal s.correct s.liars) m ≡ node.setting_of g s.heal m (public_of (authority_secret g kinds)) (owner_key g kinds (Some m))
+own-made g kinds s m = made-by g kinds.ots kinds.tree kinds.bottom s.heal s.correct s.liars m
 
 lms-is : (x y : PublicKey) → keys.Lms x ≡ keys.Lms y → x ≡ y
 lms-is x y e = cc
 
-key-made : (g : Group) (kinds : Kinds) (s : Setting) (who : Option ℕ) → (setting_for g kinds s.correct s.liars).key who ≡ public_key (owner_key g kinds who)
+key-made : (g : Group) (kinds : Kinds) (s : Setting) (who : Option ℕ) → (setting_for g kinds s.heal s.correct s.liars).key who ≡ public_key (owner_key g kinds who)
 unfolding setting_for
 key-made g kinds s who = refl
 
 -- A node with its own key is opened with what the world has for it.
 pub own-setting : (s : Setting) (g : Group) (kinds : Kinds) (m : ℕ) (authority : PublicKey) → IsWorld s g kinds → keys.Lms authority ≡ s.key None
-    → setting_of s m ≡ node.setting_of g m authority (owner_key g kinds (Some m))
+    → setting_of s m ≡ node.setting_of g s.heal m authority (owner_key g kinds (Some m))
 own-setting s g kinds m authority w is =
     let same : public_of (authority_secret g kinds) ≡ authority = sym (lms-is authority (public_of (authority_secret g kinds)) (is ∙ ap (λ (x : Setting). x.key None) w.made ∙ key-made g kinds s None)) in
-    ap (λ (x : Setting). setting_of x m) w.made ∙ own-made g kinds s m ∙ ap (λ (a : PublicKey). node.setting_of g m a (owner_key g kinds (Some m))) same
+    ap (λ (x : Setting). setting_of x m) w.made ∙ own-made g kinds s m ∙ ap (λ (a : PublicKey). node.setting_of g s.heal m a (owner_key g kinds (Some m))) same
 
 pub own-public : (s : Setting) (g : Group) (kinds : Kinds) (m : ℕ) → IsWorld s g kinds → s.key (Some m) ≡ public_key (owner_key g kinds (Some m))
 own-public s g kinds m w = ap (λ (x : Setting). x.key (Some m)) w.made ∙ key-made g kinds s (Some m)
@@ -129,10 +132,11 @@ made-untaken g kinds m k public new is =
     }
 
 -- A node's kit and key, as they are opened together.
-pub own-kit : (s : Setting) (g other : Group) (kinds : Kinds) (m me : ℕ) (authority : PublicKey) (key : KeySecret) → IsWorld s g kinds → keys.Lms authority ≡ s.key None → other ≡ g → me ≡ m → key ≡ owner_key g kinds (Some m)
-    → setting_of s m ≡ node.setting_of other me authority key
-own-kit s g other kinds m me authority key w is group_is me_is key_is =
+pub own-kit : (s : Setting) (g other : Group) (kinds : Kinds) (m me : ℕ) (authority : PublicKey) (key : KeySecret) (heal : Option Heal) → IsWorld s g kinds → keys.Lms authority ≡ s.key None → other ≡ g → me ≡ m → key ≡ owner_key g kinds (Some m)
+    → heal ≡ s.heal → setting_of s m ≡ node.setting_of other heal me authority key
+own-kit s g other kinds m me authority key heal w is group_is me_is key_is heal_is =
     own-setting s g kinds m authority w is
-    ∙ ap (λ (x : Group). node.setting_of x m authority (owner_key g kinds (Some m))) (sym group_is)
-    ∙ ap (λ (x : ℕ). node.setting_of other x authority (owner_key g kinds (Some m))) (sym me_is)
-    ∙ ap (λ (k : KeySecret). node.setting_of other me authority k) (sym key_is)
+    ∙ ap (λ (x : Group). node.setting_of x s.heal m authority (owner_key g kinds (Some m))) (sym group_is)
+    ∙ ap (λ (x : ℕ). node.setting_of other s.heal x authority (owner_key g kinds (Some m))) (sym me_is)
+    ∙ ap (λ (k : KeySecret). node.setting_of other s.heal me authority k) (sym key_is)
+    ∙ ap (λ (o : Option Heal). node.setting_of other o me authority key) (sym heal_is)

@@ -23,12 +23,13 @@ use Rattle.world_host.specs.Hosts.{HostState}
 
 -- The world is of this group, with keys of these kinds, of which there are keys.
 pub record IsWorld (s : Setting) (g : Group) (kinds : Kinds) : Type 0 where
-  pub made : s ≡ setting_for g kinds s.correct s.liars
+  pub made : s ≡ setting_for g kinds s.heal s.correct s.liars
   pub few : g.t ≤ MAX_TOLERANCE
   pub profile : is_in_profile kinds ≡ true
 
--- The authority is the world's, and has certified all its members.
+-- The authority is the world's, with its option, and has certified all its members.
 pub record Certifies (s : Setting) (a : Certifying) : Type 0 where
+  pub heal : a.heal ≡ s.heal
   pub key : keys.Lms a.key ≡ s.key None
   pub certified : recs_of a.certificates ≡ certificates s
 

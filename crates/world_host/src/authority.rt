@@ -11,7 +11,7 @@ ghost use Rattle.world_host.specs.Bodies.{is_among as is_one_of};
 ghost use Rattle.world_host.specs.Holding.{IsPlaceOf};
 
 use crate::bodies::is_same;
-use ff_ids::{Group, MemberId};
+use ff_ids::{Group, Heal, MemberId};
 use fields::{Bytes, NoMemory};
 use lms_tree::PublicKey;
 use node_core::Kit;
@@ -20,10 +20,12 @@ use secrets::{nonce_seed, world_secret};
 use std::alloc::Global;
 use std::marker::Model;
 
-/// The group, the authority's key, and the certificates that it has signed, in order of number. Contracts see these.
+/// The group, whether nodes that lost each other come together again, the authority's key, and the certificates that
+/// it has signed, in order of number. Contracts see these.
 #[derive(Drop)]
 pub struct Authority {
     group: Group,
+    heal: Option<Heal>,
     key: PublicKey,
     certificates: Vec<Checked>,
 }
@@ -38,7 +40,7 @@ impl Model for Authority {
     ghost Value = { Certifying };
 
     ghost view = { λ a. record
-        { group = a.group; key = a.key; certificates = a.certificates.items } };
+        { group = a.group; heal = a.heal; key = a.key; certificates = a.certificates.items } };
 
     ghost invariant = { λ a. All (IsCheckedIn a.group (keys.Lms a.key)) a.certificates.items
         × All IsChecked a.certificates.items };
@@ -76,11 +78,12 @@ fn copies_of(
 
 impl Authority {
     /// Nobody is certified yet.
-    pub fn new(alloc: Global, group: Group, key: PublicKey) -> Authority
-        ensures { result ≡ record { group = group; key = key; certificates = [] } }
+    pub fn new(alloc: Global, group: Group, heal: Option<Heal>, key: PublicKey) -> Authority
+        ensures { result ≡ record { group = group; heal = heal; key = key; certificates = [] } }
     {
         Authority {
             group,
+            heal,
             key,
             certificates: Vec::new(alloc),
         }
@@ -125,6 +128,7 @@ impl Authority {
         ensures me { IfOk result (λ kit. kit.me ≡ me) }
         ensures authority { IfOk result (λ kit. kit.authority ≡ self.now.key) }
         ensures certificates { IfOk result (λ kit. kit.certificates.items ≡ self.now.certificates) }
+        ensures heal { IfOk result (λ kit. kit.heal ≡ self.now.heal) }
         ensures checked { IfOk result
             (λ kit. All (IsCheckedIn kit.group (keys.Lms kit.authority)) kit.certificates.items) }
         ensures verify { IfOk result (λ kit. All IsChecked kit.certificates.items) }
@@ -142,6 +146,7 @@ impl Authority {
             authority: self.key,
             certificates,
             nonce_seed: nonce_seed(&secret, next),
+            heal: self.heal,
         })
     }
 }

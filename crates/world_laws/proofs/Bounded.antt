@@ -6,7 +6,7 @@ use Rattle.std.proofs.lemmas.Bool.Decides.{nat_tests}
 use Rattle.ff_ids.specs.Views.{State}
 use Rattle.ff_ids.specs.Steps.{Ticks as Passes}
 use Rattle.records.specs.declared.Body.{Body}
-use Rattle.records.specs.declared.Body.TheVariants.{Accusation}
+use Rattle.records.specs.declared.Body.TheVariants.{Accusation, Note}
 use Rattle.records.specs.declared.Record.{Record}
 use Rattle.epoch_store.specs.declared.Stored.{Stored}
 use Rattle.datagram.specs.declared.Datagram.{Datagram}
@@ -15,8 +15,8 @@ use Rattle.datagram.specs.Grammar.{read_of}
 use Rattle.node_rules.specs.Nodes as node
 use Rattle.node_rules.specs.Nodes.{Node, state_of}
 use Rattle.node_rules.specs.Calls.{Call, begun, takes, signs, is_used_up}
-use Rattle.node_rules.specs.Deliveries.{answer_to, handles}
-use Rattle.node_rules.specs.Ticking.{accuses, is_due, passed, pings_in, probed_at, round_of, silent_in}
+use Rattle.node_rules.specs.Deliveries.{answer_to, handles, returning_note}
+use Rattle.node_rules.specs.Ticking.{accuses, is_due, passed, pings_in, probed_at, round_of, silent_in, spreads}
 use Rattle.node_rules.specs.Leaving.{leaving, leaves}
 use Rattle.node_rules.specs.Lives.{Input, Delivers, Ticks, Leaves}
 use Rattle.node_rules.proofs.Small.{node-sends, stored-takes, stored-signs}
@@ -26,7 +26,7 @@ use Rattle.node_rules.specs.OnDisks.{puts, takes_step, steps_on, accuses_on, hea
 use Rattle.node_rules.proofs.Called.{accused-on, handled-on}
 use Rattle.world_rules.specs.Calls.{OnDisk, called_on, world_storage}
 use Rattle.world_rules.proofs.OnDisks.{left-state, next-after}
-use Rattle.world_laws.proofs.Handing.{Hands, AnyRecord, any-handed, hands-accuses, hands-called, hands-handles, hands-leaves, hands-probed_at, joined}
+use Rattle.world_laws.proofs.Handing.{Hands, AnyRecord, any-handed, hands-accuses, hands-called, hands-handles, hands-leaves, hands-probed_at, hands-spreads, joined}
 
 -- ---- in a call
 
@@ -49,12 +49,15 @@ bounding s =
       judged = λ r c any h. h;
       sent = λ d c to h. subst (λ (n : Node). IsBounded s n.stored) (sym (node-sends s d c to)) h;
       taken = λ r c any fine h. bounded-takes s r c h;
-      answered = λ r a c any fine is me left h. bounded-signs s (answer_to s (takes s r c).node.stored a) (takes s r c) left (bounded-takes s r c h);
+      answered = λ r a c any fine is me may left h. bounded-signs s (answer_to s (takes s r c).node.stored a) (takes s r c) left (bounded-takes s r c h);
+      returned = λ r a c any asks may left h. bounded-signs s (Note (returning_note s c.node.stored)) c left h;
       accused = λ a c by left h. bounded-signs s (Accusation a) c left h;
       departed = λ c left h. bounded-signs s (leaving s c.node.stored) c left h;
       stopped = λ c h. h;
       passed = λ c h. subst (IsBounded s) (sym (stored-lives s Passes c)) h;
       probed = λ p c h. h;
+      spanned = λ c h. h;
+      spread = λ c h. h;
     })
 
 -- ---- over a disk
@@ -91,9 +94,11 @@ disk-heard s (Ok (kinds.Records from records)) d h =
 disk-due : (s : node.Setting) (accused : List ℕ) (sent : List (ℕ × ℕ)) (round : ℕ) (d : OnDisk) → IsWithin s d → IsBounded s (due_on world_storage s accused sent round d).disk.state
 unfolding due_on
 disk-due s accused sent round d h =
-    let d1 : OnDisk = fold (accuses_on world_storage s) d accused in
-    let h1 : IsWithin s d1 = subst (IsWithin s) (sym (accused-on world_storage s d accused))
-    (within-steps s (λ works c x. accuses works s c x) accused d (λ works c m k. hands-accuses s AnyRecord (λ c. IsBounded s c.node.stored) (bounding s) works c m k) h) in
+    let d0 : OnDisk = record d { call = spreads s d.call } in
+    let h0 : IsWithin s d0 = record { node = hands-spreads s AnyRecord (λ c. IsBounded s c.node.stored) (bounding s) d.call h.node; disk = h.disk } in
+    let d1 : OnDisk = fold (accuses_on world_storage s) d0 accused in
+    let h1 : IsWithin s d1 = subst (IsWithin s) (sym (accused-on world_storage s d0 accused))
+    (within-steps s (λ works c x. accuses works s c x) accused d0 (λ works c m k. hands-accuses s AnyRecord (λ c. IsBounded s c.node.stored) (bounding s) works c m k) h0) in
     cond_both {A = OnDisk} d1.call.ended d1 _ (λ x. IsBounded s x.disk.state) (λ over. h1.disk) (λ going. h1.disk)
 
 disk-called : (s : node.Setting) (n : Node) (i : Input) (d : Disk) → IsBounded s n.stored → IsBounded s d.state → IsBounded s (called_on s n i d).disk.state

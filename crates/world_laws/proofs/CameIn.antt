@@ -6,7 +6,7 @@ use Rattle.ff_ids.specs.declared.AccBody.{AccBody}
 use Rattle.ff_ids.specs.Steps.{Event, Accuses, Ticks as Passes, step}
 use Rattle.life_laws.proofs.Lists.{In, In-append_cases, In-filter}
 use Rattle.records.specs.declared.Body.{Body}
-use Rattle.records.specs.declared.Body.TheVariants.{Accusation}
+use Rattle.records.specs.declared.Body.TheVariants.{Accusation, Note}
 use Rattle.records.specs.declared.Record.{Record}
 use Rattle.datagram.specs.declared.Datagram.{Datagram}
 use Rattle.journal.specs.declared.event.Event as journal
@@ -14,7 +14,7 @@ use Rattle.journal.specs.declared.event.What as whats
 use Rattle.journal.specs.declared.event.What.TheVariants as happened
 use Rattle.node_rules.specs.Nodes.{Setting, Node, state_of, event_of}
 use Rattle.node_rules.specs.Calls.{Call, lives, takes, tells, spends, signs, sends, told_of}
-use Rattle.node_rules.specs.Deliveries.{answer_to}
+use Rattle.node_rules.specs.Deliveries.{answer_to, returning_note}
 use Rattle.node_rules.specs.Leaving.{leaving}
 use Rattle.node_rules.specs.Lives.{Input, is_of_life}
 use Rattle.node_rules.proofs.Handling.{nil-right, unlived}
@@ -130,12 +130,15 @@ bringing s low =
       refused = λ r fault c any e h. brings-tells s low (happened.Took r.body (Some fault)) c refl h;
       sent = λ d c to h. brings-sends s low d c to h;
       accepted = λ r c any fine h. brings-takes s low r (tells s (happened.Took r.body None) c) (brings-tells s low (happened.Took r.body None) c refl h);
-      answered = λ r a c any fine is me left h. brings-signs s low (answer_to s (accepts s r c).node.stored a) (accepts s r c) (brings-takes s low r (tells s (happened.Took r.body None) c) (brings-tells s low (happened.Took r.body None) c refl h));
+      answered = λ r a c any fine is me may left h. brings-signs s low (answer_to s (accepts s r c).node.stored a) (accepts s r c) (brings-takes s low r (tells s (happened.Took r.body None) c) (brings-tells s low (happened.Took r.body None) c refl h));
+      returned = λ r a c any asks may left h. brings-signs s low (Note (returning_note s c.node.stored)) c h;
       accused = λ a c by left h. brings-signs s low (Accusation a) c h;
       departed = λ c left h. brings-signs s low (leaving s c.node.stored) c h;
       stopped = λ c h. let x = brings-tells s low happened.Stopped c refl h in record { longer = x.longer; came = λ moment index a i. let y = x.came moment index a i in record { place = y.place; since = y.since; there = y.there } };
       passed = λ c h. brings-lives s low Passes c h;
       probed = λ p c h. record { longer = h.longer; came = λ moment index a i. let y = h.came moment index a i in record { place = y.place; since = y.since; there = y.there } };
+      spanned = λ c h. record { longer = h.longer; came = λ moment index a i. let y = h.came moment index a i in record { place = y.place; since = y.since; there = y.there } };
+      spread = λ c h. record { longer = h.longer; came = λ moment index a i. let y = h.came moment index a i in record { place = y.place; since = y.since; there = y.there } };
     }
 
 pub came-called : (s : Setting) (n : Node) (i : Input) (d : Disk) (moment index : ℕ) (a : AccBody) → In (called_on s n i d).call.told (record { moment = moment; what = happened.Spent index (Accusation a) }) → Came (length n.lived) (called_on s n i d).call a

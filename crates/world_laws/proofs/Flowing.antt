@@ -8,7 +8,7 @@ use Rattle.std.proofs.lemmas.List.Elements.{filter_map-append}
 use Rattle.std.proofs.lemmas.Option.{slice_get_within}
 use Rattle.ff_ids.specs.declared.RingNo.{RingNo}
 use Rattle.records.specs.declared.Body.{Body}
-use Rattle.records.specs.declared.Body.TheVariants.{Accusation}
+use Rattle.records.specs.declared.Body.TheVariants.{Accusation, Note}
 use Rattle.records.specs.declared.Record.{Record}
 use Rattle.epoch_store.specs.declared.Stored.{Stored}
 use Rattle.signer.specs.Lives.{IsRising}
@@ -18,7 +18,7 @@ use Rattle.journal.specs.declared.event.What.TheVariants as happened
 use Rattle.node_rules.specs.Nodes as node
 use Rattle.node_rules.specs.Nodes.{state_of}
 use Rattle.node_rules.specs.Calls.{Call, begun as call_begun, takes, signs, tells}
-use Rattle.node_rules.specs.Deliveries.{answer_to}
+use Rattle.node_rules.specs.Deliveries.{answer_to, returning_note}
 use Rattle.node_rules.specs.Starting.{blank, opened, first_note, started}
 use Rattle.node_rules.specs.Leaving.{leaving}
 use Rattle.node_rules.specs.Lives.{Input, Delivers, Ticks, Leaves, is_of_life}
@@ -79,12 +79,15 @@ none-hands s =
       judged = λ r c any h. none-tells s _ c refl h;
       sent = λ d c to h. that-sends is_got s d c to got-over ∙ h;
       taken = λ r c any fine h. that-takes is_got s r c got-over ∙ h;
-      answered = λ r a c any fine is me left h. none-signs s (answer_to s (takes s r c).node.stored a) (takes s r c) (that-takes is_got s r c got-over ∙ h);
+      answered = λ r a c any fine is me may left h. none-signs s (answer_to s (takes s r c).node.stored a) (takes s r c) (that-takes is_got s r c got-over ∙ h);
+      returned = λ r a c any asks may left h. none-signs s (Note (returning_note s c.node.stored)) c h;
       accused = λ a c by left h. none-signs s (Accusation a) c h;
       departed = λ c left h. none-signs s (leaving s c.node.stored) c h;
       stopped = λ c h. none-tells s happened.Stopped c refl h;
       passed = λ c h. that-lives is_got s _ c got-over ∙ h;
       probed = λ p c h. h;
+      spanned = λ c h. h;
+      spread = λ c h. h;
     })
 
 none-called : (s : node.Setting) (n : node.Node) (i : Input) (d : Disk) → NoneGot (called_on s n i d).call

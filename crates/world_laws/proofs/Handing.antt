@@ -1,10 +1,11 @@
 -- What a call over a disk carries on that each of its steps does, where it is known which records it is handed.
 use Rattle.std.proofs.Common.{◌≡◌, ℕ, zero, suc, Bool, true, false, eqb, cond, List, [], ◌∷◌, Option, Some, None, inl, inr, refl, sym, subst, take}
-use Rattle.std.specs.Prelude.{Result, Ok, Err}
+use Rattle.std.specs.Prelude.{◌&&◌, Result, Ok, Err}
 use Rattle.std.specs.List.{slice_get}
-use Rattle.std.proofs.lemmas.Bool.{cond_both}
+use Rattle.std.proofs.lemmas.Bool.{cond_both, and_parts}
 use Rattle.ff_ids.specs.declared.AccBody.{AccBody}
 use Rattle.ff_ids.specs.declared.Fault.{Fault}
+use Rattle.ff_ids.specs.declared.NoteBody.{NoteBody}
 use Rattle.ff_ids.specs.declared.summary.Summary.{Summary}
 use Rattle.ff_ids.specs.Views.{State}
 use Rattle.ff_ids.specs.Steps.{Ticks}
@@ -12,6 +13,7 @@ use Rattle.life_laws.proofs.Lists.{In}
 use Rattle.records.specs.declared.Body.{Body}
 use Rattle.records.specs.declared.Body.TheVariants.{Certificate, Note, Accusation}
 use Rattle.records.specs.declared.Record.{Record}
+use Rattle.epoch_store.specs.declared.Stored.{Stored}
 use Rattle.datagram.specs.declared.Datagram.{Datagram}
 use Rattle.datagram.specs.declared.Datagram.TheVariants as kinds
 use Rattle.datagram.specs.Grammar.{read_of}
@@ -22,12 +24,14 @@ use Rattle.node_rules.specs.Nodes.{Setting, Node, state_of, neighbours, neighbou
 use Rattle.node_rules.specs.Pages.{page, partner, page_number, lacking}
 use Rattle.node_rules.specs.Refusals.{refusal}
 use Rattle.node_rules.specs.Calls.{Call, begun, tells, lives, takes, signs, signs_and_sends, wants, stops, sends, sends_to_all, is_used_up, own_record}
-use Rattle.node_rules.specs.Deliveries.{answer_to, answers, judged, handles, handles_all, is_other, gives, replies, exchanges, pinged, ponged_by, hears, delivered}
-use Rattle.node_rules.specs.Ticking.{accusation_on, ring_for, has_accused, wants_accusation, accuses, accuses_all, is_due, silent_in, pings_in, probes_after, pings_all, summary_to, gossips, round_of, passed, probed_at, due_tick, ticked}
+use Rattle.node_rules.specs.Deliveries.{answer_to, returning_note, may_rise, is_told, asked_of, asked_with, gives_note, settles, handles, handles_all, is_other, gives, replies, exchanges, pinged, ponged_by, hears, delivered}
+use Rattle.node_rules.specs.Ticking.{accusation_on, ring_for, has_accused, wants_accusation, accuses, accuses_all, fresh, spreads_all, spreads, is_due, begins_span, silent_in, pings_in, probes_after, pings_all, summary_to, gossips, round_of, passed, probed_at, spread_at, due_tick, ticked}
 use Rattle.node_rules.specs.Leaving.{leaving, leaves, left}
 use Rattle.node_rules.specs.Lives.{Input, Delivers, Ticks as Tick, Leaves}
 use Rattle.world_rules.specs.Disks.{Disk}
 use Rattle.world_rules.specs.Calls.{called_on}
+use Rattle.node_rules.proofs.Small.{stored-takes}
+use Rattle.node_rules.proofs.Carrying.{AsksBack}
 use Rattle.node_rules.proofs.Called.{ComesSoFar, delivered_until, left_until, ticked_until}
 use Rattle.world_rules.proofs.SoFar.{so_far}
 
@@ -53,12 +57,15 @@ pub record Hands (s : Setting) (Given : Record → Type 0) (P : Call → Type 0)
   pub refused : (r : Record) (fault : Fault) (c : Call) → Given r → refusal s c.node r ≡ Some fault → P c → P (tells s (happened.Took r.body (Some fault)) c)
   pub sent : (d : Datagram) (c : Call) (to : ℕ) → P c → P (sends s d c to)
   pub accepted : (r : Record) (c : Call) → Given r → refusal s c.node r ≡ None → P c → P (accepts s r c)
-  pub answered : (r : Record) (a : AccBody) (c : Call) → Given r → refusal s c.node r ≡ None → r.body ≡ Accusation a → eqb a.accused s.me ≡ true → is_used_up s (accepts s r c).node ≡ false → P c → P (signs s (answer_to s (accepts s r c).node.stored a) (accepts s r c))
+  pub answered : (r : Record) (a : AccBody) (c : Call) → Given r → refusal s c.node r ≡ None → r.body ≡ Accusation a → eqb a.accused s.me ≡ true → may_rise s.heal c.node ≡ true → is_used_up s (accepts s r c).node ≡ false → P c → P (signs s (answer_to s (accepts s r c).node.stored a) (accepts s r c))
+  pub returned : (r : Record) (a : AccBody) (c : Call) → Given r → AsksBack s c.node r a → may_rise s.heal c.node ≡ true → is_used_up s c.node ≡ false → P c → P (signs s (Note (returning_note s c.node.stored)) c)
   pub accused : (a : AccBody) (c : Call) → a.accuser ≡ s.me → is_used_up s c.node ≡ false → P c → P (signs s (Accusation a) c)
   pub departed : (c : Call) → is_used_up s c.node ≡ false → P c → P (signs s (leaving s c.node.stored) c)
   pub stopped : (c : Call) → P c → P (stops s c)
   pub passed : (c : Call) → P c → P (lives s Ticks c)
   pub probed : (h : History) (c : Call) → P c → P (record c { node = record c.node { probes = h } })
+  pub spanned : (c : Call) → P c → P (record c { node = record c.node { since = c.node.stored.epoch } })
+  pub spread : (c : Call) → P c → P (record c { node = record c.node { news = [] } })
 
 -- So does each with what is reported of a record apart from its acceptance.
 pub record HandsApart (s : Setting) (Given : Record → Type 0) (P : Call → Type 0) : Type 0 where
@@ -66,12 +73,15 @@ pub record HandsApart (s : Setting) (Given : Record → Type 0) (P : Call → Ty
   pub judged : (r : Record) (c : Call) → Given r → P c → P (tells s (happened.Took r.body (refusal s c.node r)) c)
   pub sent : (d : Datagram) (c : Call) (to : ℕ) → P c → P (sends s d c to)
   pub taken : (r : Record) (c : Call) → Given r → refusal s c.node r ≡ None → P c → P (takes s r c)
-  pub answered : (r : Record) (a : AccBody) (c : Call) → Given r → refusal s c.node r ≡ None → r.body ≡ Accusation a → eqb a.accused s.me ≡ true → is_used_up s (takes s r c).node ≡ false → P c → P (signs s (answer_to s (takes s r c).node.stored a) (takes s r c))
+  pub answered : (r : Record) (a : AccBody) (c : Call) → Given r → refusal s c.node r ≡ None → r.body ≡ Accusation a → eqb a.accused s.me ≡ true → may_rise s.heal c.node ≡ true → is_used_up s (takes s r c).node ≡ false → P c → P (signs s (answer_to s (takes s r c).node.stored a) (takes s r c))
+  pub returned : (r : Record) (a : AccBody) (c : Call) → Given r → AsksBack s c.node r a → may_rise s.heal c.node ≡ true → is_used_up s c.node ≡ false → P c → P (signs s (Note (returning_note s c.node.stored)) c)
   pub accused : (a : AccBody) (c : Call) → a.accuser ≡ s.me → is_used_up s c.node ≡ false → P c → P (signs s (Accusation a) c)
   pub departed : (c : Call) → is_used_up s c.node ≡ false → P c → P (signs s (leaving s c.node.stored) c)
   pub stopped : (c : Call) → P c → P (stops s c)
   pub passed : (c : Call) → P c → P (lives s Ticks c)
   pub probed : (h : History) (c : Call) → P c → P (record c { node = record c.node { probes = h } })
+  pub spanned : (c : Call) → P c → P (record c { node = record c.node { since = c.node.stored.epoch } })
+  pub spread : (c : Call) → P c → P (record c { node = record c.node { news = [] } })
 
 pub joined : (s : Setting) (Given : Record → Type 0) (P : Call → Type 0) → HandsApart s Given P → Hands s Given P
 joined s Given P k =
@@ -80,12 +90,15 @@ joined s Given P k =
       refused = λ r fault c given e h. subst (λ f. P (tells s (happened.Took r.body f) c)) e (k.judged r c given h);
       sent = k.sent;
       accepted = λ r c given e h. k.taken r (tells s (happened.Took r.body None) c) given e (subst (λ f. P (tells s (happened.Took r.body f) c)) e (k.judged r c given h));
-      answered = λ r a c given e is me left h. k.answered r a (tells s (happened.Took r.body None) c) given e is me left (subst (λ f. P (tells s (happened.Took r.body f) c)) e (k.judged r c given h));
+      answered = λ r a c given e is me may left h. k.answered r a (tells s (happened.Took r.body None) c) given e is me may left (subst (λ f. P (tells s (happened.Took r.body f) c)) e (k.judged r c given h));
+      returned = k.returned;
       accused = k.accused;
       departed = k.departed;
       stopped = k.stopped;
       passed = k.passed;
       probed = k.probed;
+      spanned = k.spanned;
+      spread = k.spread;
     }
 
 abbrev pub AnyRecord : Record → Type 0
@@ -107,22 +120,37 @@ hands-wants s Given P k works body addressees c h signed =
 
 -- ---- records
 
-hands-answers : (s : Setting) (Given : Record → Type 0) (P : Call → Type 0) → Hands s Given P → (works : Bool) (r : Record) (b : Body) (c : Call) → r.body ≡ b → Given r → refusal s c.node r ≡ None → P c → P (answers works s b (accepts s r c))
-hands-answers s Given P k works r (Certificate b) c e given fine h = k.accepted r c given fine h
-hands-answers s Given P k works r (Note b) c e given fine h = k.accepted r c given fine h
-hands-answers s Given P k works r (Accusation a) c e given fine h =
-    let c1 : Call = accepts s r c in
-    cond_both (eqb a.accused s.me) (wants works s (answer_to s c1.node.stored a) (neighbours s) c1) c1 P
-    (λ yes. hands-wants s Given P k works (answer_to s c1.node.stored a) (neighbours s) c1 (k.accepted r c given fine h) (λ left. k.answered r a c given fine e yes left h))
-    (λ no. k.accepted r c given fine h)
+hands-settles : (s : Setting) (Given : Record → Type 0) (P : Call → Type 0) → Hands s Given P → (f : Option Fault) (r : Record) (c : Call) → refusal s c.node r ≡ f → Given r → P c → P (settles s f r c)
+hands-settles s Given P k (Some fault) r c e given h = k.refused r fault c given e h
+hands-settles s Given P k None r c e given h = k.accepted r c given e h
 
-hands-judged : (s : Setting) (Given : Record → Type 0) (P : Call → Type 0) → Hands s Given P → (works : Bool) (f : Option Fault) (r : Record) (c : Call) → refusal s c.node r ≡ f → Given r → P c → P (judged works s f r c)
-hands-judged s Given P k works (Some fault) r c e given h = k.refused r fault c given e h
-hands-judged s Given P k works None r c e given h = hands-answers s Given P k works r r.body c refl given e h
+hands-asked_of : (s : Setting) (Given : Record → Type 0) (P : Call → Type 0) → Hands s Given P → (works : Bool) (f : Option Fault) (a : AccBody) (r : Record) (c : Call)
+    → refusal s c.node r ≡ f → r.body ≡ Accusation a → eqb a.accused s.me ≡ true → may_rise s.heal c.node ≡ true → Given r → P c → P (gives_note works s (asked_of s c.node f a r) (settles s f r c))
+hands-asked_of s Given P k works None a r c e is me may given h =
+    let c1 : Call = accepts s r c in
+    let kept : c1.node.stored ≡ c.node.stored = stored-takes s r (tells s (happened.Took r.body None) c) in
+    hands-wants s Given P k works (answer_to s c.node.stored a) (neighbours s) c1 (k.accepted r c given e h)
+    (λ left. subst (λ (x : Stored). P (signs s (answer_to s x a) c1)) kept (k.answered r a c given e is me may left h))
+hands-asked_of s Given P k works (Some f) a r c e is me may given h =
+    let note : NoteBody = returning_note s c.node.stored in
+    let c1 : Call = tells s (happened.Took r.body (Some f)) c in
+    let h1 : P c1 = k.refused r f c given e h in
+    cond_both (is_told s c.node f a r) (Some note) None (λ o. P (gives_note works s o c1))
+    (λ heard. hands-wants s Given P k works (Note note) (neighbours s) c1 h1 (λ left. k.returned r a c1 given (record { fault = f; refused = e; is = is; me = me; told = heard }) may left h1))
+    (λ no. h1)
+
+hands-asked : (s : Setting) (Given : Record → Type 0) (P : Call → Type 0) → Hands s Given P → (works : Bool) (f : Option Fault) (b : Body) (r : Record) (c : Call)
+    → refusal s c.node r ≡ f → r.body ≡ b → Given r → P c → P (gives_note works s (asked_with s c.node f b r) (settles s f r c))
+hands-asked s Given P k works f (Certificate x) r c e is given h = hands-settles s Given P k f r c e given h
+hands-asked s Given P k works f (Note x) r c e is given h = hands-settles s Given P k f r c e given h
+hands-asked s Given P k works f (Accusation a) r c e is given h =
+    cond_both (eqb a.accused s.me && may_rise s.heal c.node) (asked_of s c.node f a r) None (λ o. P (gives_note works s o (settles s f r c)))
+    (λ yes. let both = and_parts _ _ yes in hands-asked_of s Given P k works f a r c e is both.0 both.1 given h)
+    (λ no. hands-settles s Given P k f r c e given h)
 
 pub hands-handles : (s : Setting) (Given : Record → Type 0) (P : Call → Type 0) → Hands s Given P → (works : Bool) (c : Call) (r : Record) → Given r → P c → P (handles works s c r)
 unfolding handles
-hands-handles s Given P k works c r given h = hands-judged s Given P k works (refusal s c.node r) r c refl given h
+hands-handles s Given P k works c r given h = hands-asked s Given P k works (refusal s c.node r) r.body r c refl refl given h
 
 pub hands-handles_all : (s : Setting) (Given : Record → Type 0) (P : Call → Type 0) → Hands s Given P → (records : List Record) (c : Call) → ((r : Record) → In records r → Given r) → P c → P (handles_all s records c)
 hands-handles_all s Given P k [] c given h = h
@@ -143,9 +171,9 @@ hands-exchanges : (s : Setting) (Given : Record → Type 0) (P : Call → Type 0
 hands-exchanges s Given P k from flag theirs c h =
     let c1 : Call = tells s (happened.Summary from theirs.page flag) c in
     let h1 : P c1 = k.told (happened.Summary from theirs.page flag) c refl h in
-    let c2 : Call = gives s from (lacking c.node theirs) c1 in
+    let c2 : Call = gives s from (lacking c.node from theirs) c1 in
     cond_both (is_other s c.node from) (replies s from flag theirs.page c2) c1 P
-    (λ yes. hands-replies s Given P k from flag theirs.page c2 (hands-gives s Given P k from (lacking c.node theirs) c1 h1))
+    (λ yes. hands-replies s Given P k from flag theirs.page c2 (hands-gives s Given P k from (lacking c.node from theirs) c1 h1))
     (λ no. h1)
 
 hands-pinged : (s : Setting) (Given : Record → Type 0) (P : Call → Type 0) → Hands s Given P → (from nonce : ℕ) (c : Call) → P c → P (pinged s from nonce c)
@@ -216,11 +244,29 @@ pub hands-probed_at : (s : Setting) (Given : Record → Type 0) (P : Call → Ty
 unfolding probed_at passed
 hands-probed_at s Given P k n h =
     let c : Call = lives s Ticks (begun n) in
-    k.probed (probes_after s c.node (state_of s c.node)).probes c (k.passed (begun n) h)
+    let st : State = state_of s c.node in
+    let probes : History = (probes_after s c.node st).probes in
+    let c1 : Call = record c { node = record c.node { probes = probes } } in
+    let h1 : P c1 = k.probed probes c (k.passed (begun n) h) in
+    cond_both (begins_span s st) c.node.stored.epoch c.node.since (λ since. P (record c1 { node = record c1.node { since = since } })) (λ yes. k.spanned c1 h1) (λ no. h1)
+
+hands-spreads_all : (s : Setting) (Given : Record → Type 0) (P : Call → Type 0) → Hands s Given P → (records : List Record) (c : Call) → P c → P (spreads_all s records c)
+hands-spreads_all s Given P k [] c h = h
+hands-spreads_all s Given P k (r ∷ records) c h = hands-sends_to_all s Given P k (neighbours s (state_of s c.node)) (kinds.Records s.me (r ∷ records)) c h
+
+pub hands-spreads : (s : Setting) (Given : Record → Type 0) (P : Call → Type 0) → Hands s Given P → (c : Call) → P c → P (spreads s c)
+unfolding spreads
+hands-spreads s Given P k c h = k.spread (spreads_all s (fresh c.node) c) (hands-spreads_all s Given P k (fresh c.node) c h)
+
+pub hands-spread_at : (s : Setting) (Given : Record → Type 0) (P : Call → Type 0) → Hands s Given P → (n : Node) → P (begun n) → P (spread_at s n)
+unfolding spread_at
+hands-spread_at s Given P k n h = hands-spreads s Given P k (probed_at s n) (hands-probed_at s Given P k n h)
 
 hands-due : (s : Setting) (Given : Record → Type 0) (P : Call → Type 0) → Hands s Given P → (accused : List ℕ) (sent : List (ℕ × ℕ)) (round : ℕ) (c : Call) → P c → P (due_tick s accused sent round c)
 unfolding due_tick
-hands-due s Given P k accused sent round c h = hands-gossips s Given P k round sent (accuses_all s accused c) (hands-accuses_all s Given P k accused c h)
+hands-due s Given P k accused sent round c h =
+    let c0 : Call = spreads s c in
+    hands-gossips s Given P k round sent (accuses_all s accused c0) (hands-accuses_all s Given P k accused c0 (hands-spreads s Given P k c h))
 
 hands-ticked : (s : Setting) (Given : Record → Type 0) (P : Call → Type 0) → Hands s Given P → (n : Node) → P (begun n) → P (ticked s n)
 unfolding ticked
@@ -235,7 +281,7 @@ hands-ticked s Given P k n h =
 hands-ticked_until : (s : Setting) (Given : Record → Type 0) (P : Call → Type 0) → Hands s Given P → (n : Node) (silent : List ℕ) (m : ℕ) → P (begun n) → P (ticked_until s n silent m)
 unfolding ticked_until
 hands-ticked_until s Given P k n silent m h =
-    hands-accuses s Given P k false (accuses_all s silent (probed_at s n)) m (hands-accuses_all s Given P k silent (probed_at s n) (hands-probed_at s Given P k n h))
+    hands-accuses s Given P k false (accuses_all s silent (spread_at s n)) m (hands-accuses_all s Given P k silent (spread_at s n) (hands-spread_at s Given P k n h))
 
 -- ---- leaving
 

@@ -20,7 +20,7 @@ use Rattle.node_rules.specs.Nodes as node
 use Rattle.node_rules.specs.Nodes.{Node, state_of, event_of, certificate_of}
 use Rattle.node_rules.specs.Refusals.{refusal}
 use Rattle.node_rules.specs.Calls.{Call, begun, tells, lives, takes, spends, signs, stops, sends, own_record, told_of, whats_of}
-use Rattle.node_rules.specs.Deliveries.{answer_to}
+use Rattle.node_rules.specs.Deliveries.{answer_to, returning_note}
 use Rattle.node_rules.specs.Starting.{blank, opened, first_note, started}
 use Rattle.node_rules.specs.Leaving.{leaving}
 use Rattle.node_rules.specs.Lives.{Input, Delivers, Ticks, Leaves, AreCertificates, KeepsOwnNote, is_of_life}
@@ -226,6 +226,12 @@ call-stops s w m c h =
 call-probed : (s : Setting) (w : World) (m : ℕ) (p : History) (c : Call) → InCall s w m c → InCall s w m (record c { node = record c.node { probes = p } })
 call-probed s w m p c h = record { within = h.within; lived = h.lived; told = h.told }
 
+call-spanned : (s : Setting) (w : World) (m : ℕ) (c : Call) → InCall s w m c → InCall s w m (record c { node = record c.node { since = c.node.stored.epoch } })
+call-spanned s w m c h = record { within = h.within; lived = h.lived; told = h.told }
+
+call-spread : (s : Setting) (w : World) (m : ℕ) (c : Call) → InCall s w m c → InCall s w m (record c { node = record c.node { news = [] } })
+call-spread s w m c h = record { within = h.within; lived = h.lived; told = h.told }
+
 -- ---- records
 
 -- The node keeps its roster, and its own newest note is the one that its store keeps.
@@ -273,6 +279,14 @@ roster-probed : (s : Setting) (n : Node) (p : History) → KeepsRoster s n → K
 unfolding certificate_of
 roster-probed s n p h = h
 
+roster-spanned : (s : Setting) (n : Node) → KeepsRoster s n → KeepsRoster s (record n { since = n.stored.epoch })
+unfolding certificate_of
+roster-spanned s n h = h
+
+roster-spread : (s : Setting) (n : Node) → KeepsRoster s n → KeepsRoster s (record n { news = [] })
+unfolding certificate_of
+roster-spread s n h = h
+
 pub going-on : (s : Setting) (w : World) (m : ℕ) → IsOfWorld s w m → Hands (setting_of s m) (IsGenuine s w) (GoesOn s w m)
 going-on s w m of =
     let own : node.Setting = setting_of s m in
@@ -290,18 +304,23 @@ going-on s w m of =
           };
       sent = λ d c to h. record { roster = roster-sends s own d c to h.roster; own = keep.sent d c to h.own; so_far = call-sends s w m d c to h.so_far };
       taken = λ r c free fine h. record { roster = roster-takes s w m r c of free fine h; own = keep.taken r c fine h.own; so_far = taken s w m r c of free fine h };
-      answered = λ r a c free fine is me left h.
+      answered = λ r a c free fine is me may left h.
           let c1 : Call = takes own r c in
           record {
             roster = roster-signs s m (answer_to own c1.node.stored a) c1 refl (roster-takes s w m r c of free fine h);
-            own = keep.answered r a c fine is me left h.own;
+            own = keep.answered r a c fine is me may left h.own;
             so_far = call-signs s w m (answer_to own c1.node.stored a) c1 refl refl (taken s w m r c of free fine h);
           };
+      returned = λ r a c free asks may left h.
+          let body : Body = Note (returning_note own c.node.stored) in
+          record { roster = roster-signs s m body c refl h.roster; own = keep.returned r a c asks may left h.own; so_far = call-signs s w m body c refl refl h.so_far };
       accused = λ a c by left h. record { roster = roster-signs s m (Accusation a) c by h.roster; own = keep.accused a c by left h.own; so_far = call-signs s w m (Accusation a) c by tt h.so_far };
       departed = λ c left h. record { roster = roster-signs s m (leaving own c.node.stored) c refl h.roster; own = keep.departed c left h.own; so_far = call-signs s w m (leaving own c.node.stored) c refl refl h.so_far };
       stopped = λ c h. record { roster = h.roster; own = h.own; so_far = call-stops s w m c h.so_far };
       passed = λ c h. record { roster = λ k. certificate-lives own Passes c k ∙ h.roster k; own = keep.passed c h.own; so_far = call-passes s w m c h.so_far };
       probed = λ p c h. record { roster = roster-probed s c.node p h.roster; own = keep.probed p c h.own; so_far = call-probed s w m p c h.so_far };
+      spanned = λ c h. record { roster = roster-spanned s c.node h.roster; own = keep.spanned c h.own; so_far = call-spanned s w m c h.so_far };
+      spread = λ c h. record { roster = roster-spread s c.node h.roster; own = keep.spread c h.own; so_far = call-spread s w m c h.so_far };
     })
 
 -- ---- a call

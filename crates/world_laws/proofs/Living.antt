@@ -18,7 +18,7 @@ use Rattle.journal.specs.declared.event.What.TheVariants as happened
 use Rattle.node_rules.specs.Nodes as node
 use Rattle.node_rules.specs.Nodes.{state_of, event_of}
 use Rattle.node_rules.specs.Calls.{Call, begun, lives, takes, tells, spends, signs, sends, own_record, told_of}
-use Rattle.node_rules.specs.Deliveries.{answer_to}
+use Rattle.node_rules.specs.Deliveries.{answer_to, returning_note}
 use Rattle.node_rules.specs.Leaving.{leaving}
 use Rattle.node_rules.specs.Starting.{blank, opened, first_note, started}
 use Rattle.node_rules.specs.Lives.{Input, AreCertificates, is_of_life}
@@ -144,12 +144,15 @@ saying s base =
       refused = λ r fault c any e h. says-tells s base (happened.Took r.body (Some fault)) c refl h;
       sent = λ d c to h. says-sends s base d c to h;
       accepted = λ r c any fine h. says-accepts s base r c h;
-      answered = λ r a c any fine is me left h. says-signs s base (answer_to s (accepts s r c).node.stored a) (accepts s r c) (says-accepts s base r c h);
+      answered = λ r a c any fine is me may left h. says-signs s base (answer_to s (accepts s r c).node.stored a) (accepts s r c) (says-accepts s base r c h);
+      returned = λ r a c any asks may left h. says-signs s base (Note (returning_note s c.node.stored)) c h;
       accused = λ a c by left h. says-signs s base (Accusation a) c h;
       departed = λ c left h. says-signs s base (leaving s c.node.stored) c h;
       stopped = λ c h. let x = says-tells s base happened.Stopped c refl h in record { more = x.more; lived = x.lived; same = x.same };
       passed = λ c h. says-lives s base Passes c refl h;
       probed = λ p c h. record { more = h.more; lived = h.lived; same = h.same };
+      spanned = λ c h. record { more = h.more; lived = h.lived; same = h.same };
+      spread = λ c h. record { more = h.more; lived = h.lived; same = h.same };
     }
 
 says-called : (s : node.Setting) (n : node.Node) (i : Input) (d : Disk) → Says n.lived (called_on s n i d).call

@@ -16,7 +16,7 @@ use Rattle.journal.specs.declared.event.What.TheVariants as happened
 use Rattle.node_rules.specs.Nodes as node
 use Rattle.node_rules.specs.Nodes.{state_of, event_of}
 use Rattle.node_rules.specs.Calls.{Call, lives, takes, tells, spends, signs, sends, own_record, told_of}
-use Rattle.node_rules.specs.Deliveries.{answer_to}
+use Rattle.node_rules.specs.Deliveries.{answer_to, returning_note}
 use Rattle.node_rules.specs.Leaving.{leaving}
 use Rattle.node_rules.specs.Lives.{Input}
 use Rattle.node_rules.proofs.Handling.{map-append, nil-right}
@@ -240,12 +240,15 @@ marking s base =
       refused = λ r fault c any e h. marks-tells s base (happened.Took r.body (Some fault)) c refl h;
       sent = λ d c to h. marks-sends s base d c to h;
       accepted = λ r c any fine h. marks-accepts s base r c h;
-      answered = λ r a c any fine is me left h. marks-signs s base (answer_to s (accepts s r c).node.stored a) (accepts s r c) (marks-accepts s base r c h);
+      answered = λ r a c any fine is me may left h. marks-signs s base (answer_to s (accepts s r c).node.stored a) (accepts s r c) (marks-accepts s base r c h);
+      returned = λ r a c any asks may left h. marks-signs s base (Note (returning_note s c.node.stored)) c h;
       accused = λ a c by left h. marks-signs s base (Accusation a) c h;
       departed = λ c left h. marks-signs s base (leaving s c.node.stored) c h;
       stopped = λ c h. marks-more base c _ (record { moment = (state_of s c.node).moment; what = happened.Stopped } ∷ []) [] refl (sym (nil-right c.node.lived)) (none refl refl) h;
       passed = λ c h. marks-passes s base c h;
       probed = λ p c h. marks-more base c (record c { node = record c.node { probes = p } }) [] [] (sym (nil-right c.told)) (sym (nil-right c.node.lived)) (none refl refl) h;
+      spanned = λ c h. marks-more base c (record c { node = record c.node { since = c.node.stored.epoch } }) [] [] (sym (nil-right c.told)) (sym (nil-right c.node.lived)) (none refl refl) h;
+      spread = λ c h. marks-more base c (record c { node = record c.node { news = [] } }) [] [] (sym (nil-right c.told)) (sym (nil-right c.node.lived)) (none refl refl) h;
     }
 
 pub marks-called : (s : node.Setting) (n : node.Node) (i : Input) (d : Disk) → Marks n.lived (called_on s n i d).call

@@ -13,7 +13,6 @@ use Rattle.life_laws.proofs.Lists.{In, In-append_left, In-append_right, In-filte
 use Rattle.records.specs.declared.Body.{Body}
 use Rattle.records.specs.declared.Body.TheVariants.{Certificate, Note, Accusation}
 use Rattle.records.specs.declared.Record.{Record}
-use Rattle.epoch_store.specs.declared.Stored.{Stored}
 use Rattle.datagram.specs.declared.Datagram.{Datagram}
 use Rattle.datagram.specs.declared.Datagram.TheVariants as kinds
 use Rattle.datagram.specs.Grammar.{read_of}
@@ -23,14 +22,14 @@ use Rattle.journal.specs.declared.event.What.TheVariants as told
 use Rattle.node_rules.specs.Nodes.{Setting, Node, event_of, neighbours, state_of}
 use Rattle.node_rules.specs.Refusals.{refusal}
 use Rattle.node_rules.specs.Calls.{Call, begun, tells, lives, takes, spends, signs, sends, stops, told_of, wants, is_used_up}
-use Rattle.node_rules.specs.Deliveries.{answer_to, answering_note, answers, judged, handles, handles_all, hears, delivered}
+use Rattle.node_rules.specs.Deliveries.{asked_with, gives_note, settles, judged, handles, handles_all, hears, delivered}
 use Rattle.node_rules.specs.Ticking.{ticked}
 use Rattle.node_rules.specs.Leaving.{leaving, leaving_note, leaves, left}
 use Rattle.node_rules.specs.Lives.{Input, Delivers, Ticks, Leaves}
 use Rattle.node_rules.specs.Verdicts.{all_at, is_apart, told_that, when_all_handled}
 use Rattle.node_rules.specs.Outgoing.{accusing_told, at_tick, to_accuse}
-use Rattle.node_rules.specs.Gaining.{leaving_event}
-use Rattle.node_rules.proofs.Small.{stored-takes}
+use Rattle.node_rules.specs.Answering.{asked_by}
+use Rattle.node_rules.specs.Gaining.{accepted_event, leaving_event}
 use Rattle.node_rules.proofs.Handling.{in-all_at, nil-right, node-wants, node-handles, unread}
 use Rattle.node_rules.proofs.Ticks.{tick-tells}
 use Rattle.node_rules.proofs.Leaving.{leaving-lived, leaving-tells}
@@ -62,9 +61,9 @@ at-append (y ∷ xs) ys (suc place) x e =
 
 -- ---- what one record brings
 
--- No answer that the node would give brings the event.
+-- No note that a record asks of the node brings the event.
 abbrev pub IsNoAnswer : Setting → Event → Node → Type 0
-IsNoAnswer s e n = (r : Record) (x : AccBody) → refusal s n r ≡ None → r.body ≡ Accusation x → eqb x.accused s.me ≡ true → Notes (answering_note s n.stored x) ≡ e → ⊥
+IsNoAnswer s e n = (r : Record) (note : NoteBody) → asked_by s n r ≡ Some note → Notes note ≡ e → ⊥
 
 -- It is the first of what comes in, and the record's body, which has no fault.
 record IsFirst (s : Setting) (n : Node) (r : Record) (place : ℕ) (e : Event) : Type 0 where
@@ -78,30 +77,27 @@ record Brings (s : Setting) (n : Node) (r : Record) (e : Event) (next : Node) : 
   grew : next.lived ≡ n.lived ++ more
   only : (place : ℕ) → slice_get more place ≡ Some e → IsFirst s n r place e
 
-brings-nothing : (s : Setting) (n : Node) (r : Record) (e : Event) (next : Node) → next.lived ≡ n.lived → Brings s n r e next
-brings-nothing s n r e next same = record { more = []; grew = same ∙ sym (nil-right n.lived); only = λ place h. none place h }
-  where
-    none : (place : ℕ) → slice_get [] place ≡ Some e → IsFirst s n r place e
-    none place h = cc
-
 some-is : {X : Type 0} (x y : X) → Some x ≡ Some y → x ≡ y
 some-is x y e = cc
 
-one-first : (s : Setting) (n : Node) (r : Record) (e : Event) → refusal s n r ≡ None → (place : ℕ) → slice_get (event_of s r.body ∷ []) place ≡ Some e → IsFirst s n r place e
-one-first s n r e fine zero h = record { first = refl; says = some-is _ _ h; no_fault = fine }
-one-first s n r e fine (suc place) h = cc
+one-first : (s : Setting) (n : Node) (r : Record) (e : Event) (f : Option Fault) → refusal s n r ≡ f → (place : ℕ) → slice_get (accepted_event s f r.body) place ≡ Some e → IsFirst s n r place e
+one-first s n r e None fine zero h = record { first = refl; says = some-is _ _ h; no_fault = fine }
+one-first s n r e None fine (suc place) h = cc
+one-first s n r e (Some fault) fine place h = cc
 
-brings-one : (s : Setting) (n : Node) (r : Record) (e : Event) (next : Node) → refusal s n r ≡ None → next.lived ≡ n.lived ++ event_of s r.body ∷ [] → Brings s n r e next
-brings-one s n r e next fine lived = record { more = event_of s r.body ∷ []; grew = lived; only = one-first s n r e fine }
+two-first : (s : Setting) (n : Node) (r : Record) (e x : Event) (f : Option Fault) → (x ≡ e → ⊥) → refusal s n r ≡ f → (place : ℕ) → slice_get (accepted_event s f r.body ++ x ∷ []) place ≡ Some e → IsFirst s n r place e
+two-first s n r e x None other fine zero h = record { first = refl; says = some-is _ _ h; no_fault = fine }
+two-first s n r e x None other fine (suc zero) h = absurd (other (some-is _ _ h))
+two-first s n r e x None other fine (suc (suc place)) h = cc
+two-first s n r e x (Some fault) other fine zero h = absurd (other (some-is _ _ h))
+two-first s n r e x (Some fault) other fine (suc place) h = cc
 
-two-first : (s : Setting) (n : Node) (r : Record) (e x : Event) → (x ≡ e → ⊥) → refusal s n r ≡ None → (place : ℕ) → slice_get (event_of s r.body ∷ x ∷ []) place ≡ Some e → IsFirst s n r place e
-two-first s n r e x other fine zero h = record { first = refl; says = some-is _ _ h; no_fault = fine }
-two-first s n r e x other fine (suc zero) h = absurd (other (some-is _ _ h))
-two-first s n r e x other fine (suc (suc place)) h = cc
+brings-one : (s : Setting) (n : Node) (r : Record) (e : Event) (f : Option Fault) (next : Node) → refusal s n r ≡ f → next.lived ≡ n.lived ++ accepted_event s f r.body → Brings s n r e next
+brings-one s n r e f next fine lived = record { more = accepted_event s f r.body; grew = lived; only = one-first s n r e f fine }
 
-brings-two : (s : Setting) (n : Node) (r : Record) (e : Event) (next : Node) (x : Event) → (x ≡ e → ⊥) → refusal s n r ≡ None → next.lived ≡ (n.lived ++ event_of s r.body ∷ []) ++ x ∷ [] → Brings s n r e next
-brings-two s n r e next x other fine lived =
-    record { more = event_of s r.body ∷ x ∷ []; grew = lived ∙ append_assoc n.lived (event_of s r.body ∷ []) (x ∷ []); only = two-first s n r e x other fine }
+brings-two : (s : Setting) (n : Node) (r : Record) (e : Event) (f : Option Fault) (next : Node) (x : Event) → (x ≡ e → ⊥) → refusal s n r ≡ f → next.lived ≡ (n.lived ++ accepted_event s f r.body) ++ x ∷ [] → Brings s n r e next
+brings-two s n r e f next x other fine lived =
+    record { more = accepted_event s f r.body ++ x ∷ []; grew = lived ∙ append_assoc n.lived (accepted_event s f r.body) (x ∷ []); only = two-first s n r e x f other fine }
 
 pub lived-takes : (s : Setting) (r : Record) (c : Call) → (takes s r c).node.lived ≡ c.node.lived ++ event_of s r.body ∷ []
 unfolding takes lives
@@ -111,36 +107,29 @@ pub lived-signs : (s : Setting) (b : Body) (c : Call) → (signs s b c).node.liv
 unfolding signs takes lives
 lived-signs s b c = refl
 
-brings-wants : (works : Bool) (s : Setting) (n : Node) (r : Record) (e : Event) (x : AccBody) (c : Call) → (Notes (answering_note s c.node.stored x) ≡ e → ⊥) → refusal s n r ≡ None → c.node.lived ≡ n.lived ++ event_of s r.body ∷ []
-    → Brings s n r e (wants works s (answer_to s c.node.stored x) (neighbours s) c).node
-brings-wants works s n r e x c other fine lived =
-    let body : Body = answer_to s c.node.stored x in
-    let one : Brings s n r e c.node = brings-one s n r e c.node fine lived in
+brings-gives_note : (works : Bool) (s : Setting) (n : Node) (r : Record) (e : Event) (f : Option Fault) (o : Option NoteBody) (c : Call) → ((note : NoteBody) → o ≡ Some note → Notes note ≡ e → ⊥) → refusal s n r ≡ f
+    → c.node.lived ≡ n.lived ++ accepted_event s f r.body → Brings s n r e (gives_note works s o c).node
+brings-gives_note works s n r e f None c other fine lived = brings-one s n r e f c.node fine lived
+brings-gives_note works s n r e f (Some note) c other fine lived =
+    let body : Body = Note note in
+    let one : Brings s n r e c.node = brings-one s n r e f c.node fine lived in
     let signed : Node = (signs s body c).node in
     subst (Brings s n r e) (sym (node-wants works s body (neighbours s) c))
     (cond_both {A = Node} (is_used_up s c.node) c.node (cond works signed c.node) (Brings s n r e) (λ up. one)
     (λ left. cond_both {A = Node} works signed c.node (Brings s n r e)
-    (λ yes. brings-two s n r e signed (Notes (answering_note s c.node.stored x)) other fine (lived-signs s body c ∙ ap (λ xs. xs ++ event_of s body ∷ []) lived))
+    (λ yes. brings-two s n r e f signed (Notes note) (other note refl) fine (lived-signs s body c ∙ ap (λ xs. xs ++ event_of s body ∷ []) lived))
     (λ no. one)))
 
-brings-answers : (works : Bool) (s : Setting) (n : Node) (r : Record) (e : Event) (b : Body) (c : Call) → r.body ≡ b → c.node.stored ≡ n.stored → IsNoAnswer s e n → refusal s n r ≡ None → c.node.lived ≡ n.lived ++ event_of s r.body ∷ []
-    → Brings s n r e (answers works s b c).node
-brings-answers works s n r e (Certificate x) c is stored other fine lived = brings-one s n r e c.node fine lived
-brings-answers works s n r e (Note x) c is stored other fine lived = brings-one s n r e c.node fine lived
-brings-answers works s n r e (Accusation x) c is stored other fine lived =
-    cond_both {A = Call} (eqb x.accused s.me) (wants works s (answer_to s c.node.stored x) (neighbours s) c) c (λ z. Brings s n r e z.node)
-    (λ me. brings-wants works s n r e x c (λ same. other r x fine is me (ap (λ (k : Stored). Notes (answering_note s k x)) (sym stored) ∙ same)) fine lived)
-    (λ not_me. brings-one s n r e c.node fine lived)
+lived-settles : (s : Setting) (f : Option Fault) (r : Record) (c : Call) → (settles s f r c).node.lived ≡ c.node.lived ++ accepted_event s f r.body
+lived-settles s (Some fault) r c = sym (nil-right c.node.lived)
+lived-settles s None r c = lived-takes s r (tells s (told.Took r.body None) c)
 
-brings-judged : (works : Bool) (s : Setting) (e : Event) (f : Option Fault) (r : Record) (c : Call) → IsNoAnswer s e c.node → refusal s c.node r ≡ f → Brings s c.node r e (judged works s f r c).node
-brings-judged works s e (Some fault) r c other is = brings-nothing s c.node r e _ refl
-brings-judged works s e None r c other is =
-    let c1 : Call = tells s (told.Took r.body None) c in
-    brings-answers works s c.node r e r.body (takes s r c1) refl (stored-takes s r c1) other is (lived-takes s r c1)
+brings-judged : (works : Bool) (s : Setting) (e : Event) (f : Option Fault) (r : Record) (c : Call) → ((note : NoteBody) → asked_with s c.node f r.body r ≡ Some note → Notes note ≡ e → ⊥) → refusal s c.node r ≡ f → Brings s c.node r e (judged works s f r c).node
+brings-judged works s e f r c other is = brings-gives_note works s c.node r e f (asked_with s c.node f r.body r) (settles s f r c) other is (lived-settles s f r c)
 
 brings-handles : (works : Bool) (s : Setting) (e : Event) (c : Call) (r : Record) → IsNoAnswer s e c.node → Brings s c.node r e (handles works s c r).node
 unfolding handles
-brings-handles works s e c r other = brings-judged works s e (refusal s c.node r) r c other refl
+brings-handles works s e c r other = brings-judged works s e (refusal s c.node r) r c (other r) refl
 
 -- ---- what the records of a datagram bring
 
@@ -154,7 +143,7 @@ pub record ComesOfOne (s : Setting) (c : Call) (records : List Record) (place : 
   pub at : length (handles_all s earlier c).node.lived ≡ place
   pub no_fault : refusal s (handles_all s earlier c).node taken ≡ None
 
--- Behind whatever records, no answer brings the event.
+-- Behind whatever records, no note that is asked brings the event.
 abbrev pub NoneAnswers : Setting → Event → Call → Type 0
 NoneAnswers s e c = (earlier : List Record) → IsNoAnswer s e (handles_all s earlier c).node
 
@@ -327,12 +316,15 @@ adding s n =
       judged = λ r c none h. absurd none;
       sent = λ d c to h. adds-sends s n d c to h;
       taken = λ r c none fine h. absurd none;
-      answered = λ r a c none fine is me left h. absurd none;
+      answered = λ r a c none fine is me may left h. absurd none;
+      returned = λ r a c none asks may left h. absurd none;
       accused = λ a c by left h. adds-signs s n (Accusation a) c by h;
       departed = λ c left h. adds-signs s n (leaving s c.node.stored) c refl h;
       stopped = λ c h. adds-stops s n c h;
       passed = λ c h. adds-passes s n c h;
       probed = λ p c h. adds-told s n c (record c { node = record c.node { probes = p } }) [] (sym (nil-right c.told)) refl h;
+      spanned = λ c h. adds-told s n c (record c { node = record c.node { since = c.node.stored.epoch } }) [] (sym (nil-right c.told)) refl h;
+      spread = λ c h. adds-told s n c (record c { node = record c.node { news = [] } }) [] (sym (nil-right c.told)) refl h;
     })
 
 -- A tick signs no note.

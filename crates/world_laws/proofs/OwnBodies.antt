@@ -4,7 +4,7 @@ use Rattle.std.proofs.lemmas.Bool.{cases_Bool, eq-eqb, false≢true}
 use Rattle.ff_ids.specs.Steps.{Event, Ticks as Passes, step}
 use Rattle.life_laws.proofs.Lists.{In, In-append_cases, In-filter}
 use Rattle.records.specs.declared.Body.{Body}
-use Rattle.records.specs.declared.Body.TheVariants.{Accusation}
+use Rattle.records.specs.declared.Body.TheVariants.{Accusation, Note}
 use Rattle.records.specs.declared.Record.{Record}
 use Rattle.datagram.specs.declared.Datagram.{Datagram}
 use Rattle.signer.specs.Lives.{Spent}
@@ -15,7 +15,7 @@ use Rattle.node_rules.specs.Nodes as node
 use Rattle.node_rules.specs.Nodes.{Node, state_of, event_of}
 use Rattle.node_rules.specs.Refusals.{refusal}
 use Rattle.node_rules.specs.Calls.{Call, lives, takes, tells, spends, signs, sends, own_record, told_of}
-use Rattle.node_rules.specs.Deliveries.{answer_to}
+use Rattle.node_rules.specs.Deliveries.{answer_to, returning_note}
 use Rattle.node_rules.specs.Leaving.{leaving}
 use Rattle.node_rules.specs.Lives.{Input, is_of_life}
 use Rattle.node_rules.proofs.Accusations.{In-filter_map}
@@ -103,12 +103,15 @@ owning s =
       judged = λ r c any h. own-tells s.me s (happened.Took r.body (refusal s c.node r)) c tt h;
       sent = λ d c to h. own-sends s.me s d c to h;
       taken = λ r c any fine h. own-takes s.me s r c h;
-      answered = λ r a c any fine is me left h. own-signs s.me s (answer_to s (takes s r c).node.stored a) (takes s r c) refl (own-takes s.me s r c h);
+      answered = λ r a c any fine is me may left h. own-signs s.me s (answer_to s (takes s r c).node.stored a) (takes s r c) refl (own-takes s.me s r c h);
+      returned = λ r a c any asks may left h. own-signs s.me s (Note (returning_note s c.node.stored)) c refl h;
       accused = λ a c by left h. own-signs s.me s (Accusation a) c by h;
       departed = λ c left h. own-signs s.me s (leaving s c.node.stored) c refl h;
       stopped = λ c h. own-tells s.me s happened.Stopped c tt h;
       passed = λ c h. own-lives s.me s Passes c h;
       probed = λ p c h. h;
+      spanned = λ c h. h;
+      spread = λ c h. h;
     })
 
 own-called : (s : node.Setting) (n : Node) (i : Input) (d : Disk) → AllOwn s.me (called_on s n i d).call

@@ -8,7 +8,7 @@ use Rattle.std.proofs.lemmas.Bool.{cases_Bool, eqb-true, eq-eqb, or_left, or_rig
 use Rattle.ff_ids.specs.declared.TheConstants.{MEMBERS}
 use Rattle.ff_ids.specs.declared.summary.RecordKey.TheVariants as keys
 use Rattle.ff_ids.specs.Views.{all_numbers}
-use Rattle.ff_ids.specs.Steps.{Event, step}
+use Rattle.ff_ids.specs.Steps.{Event, Report, step}
 use Rattle.life_laws.proofs.Lists.{In, In-filter, In-append_left, any_within}
 use Rattle.records.specs.declared.keys.Key.{Key}
 use Rattle.records.specs.declared.CertBody.{CertBody}
@@ -20,13 +20,13 @@ use Rattle.record_set.proofs.KeyLemmas.{is_key-true, is_key-same}
 use Rattle.epoch_store.specs.declared.Stored.{Stored}
 use Rattle.validate.specs.Table.{certificate_fault, signature_fault}
 use Rattle.node_rules.specs.Nodes as node
-use Rattle.node_rules.specs.Nodes.{Node, Holding, state_of, event_of, with_record, without_ended, certificate_in, certificate_of, public_key_of}
+use Rattle.node_rules.specs.Nodes.{Node, Holding, state_of, event_of, with_record, without_ended, retires, without_removal, certificate_in, certificate_of, public_key_of}
 use Rattle.node_rules.specs.Refusals.{refusal, refusal_of}
 use Rattle.node_rules.specs.Calls.{Call, begun, lives, takes, spends, signs, own_record}
 use Rattle.node_rules.specs.Starting.{blank, opened, first_note, started}
 use Rattle.node_rules.specs.Lives.{AreCertificates, is_certificate_for}
 use Rattle.node_rules.proofs.OwnNote.{option_or-none}
-use Rattle.node_rules.proofs.OwnKey.{ended-certificate}
+use Rattle.node_rules.proofs.OwnKey.{ended-certificate, removal-certificate}
 use Rattle.node_rules.proofs.Accusations.{In-range}
 use Rattle.world_rules.specs.Settings.{Setting, Signed, is_node, nodes, members, record_of, certificate, certified_from, by_authority, certificates}
 use Rattle.world_rules.specs.Laws.{IsSetting}
@@ -39,7 +39,7 @@ certificate_at o = option_and_then (λ r. certificate_in r.body) o
 
 pub certificate-lives : (s : node.Setting) (e : Event) (c : Call) (k : ℕ) → certificate_of (lives s e c).node k ≡ certificate_of c.node k
 unfolding lives certificate_of
-certificate-lives s e c k = ap certificate_at (ended-certificate (step s.group (state_of s c.node) e).report c.node.held k)
+certificate-lives s e c k = ap certificate_at (ended-certificate s.heal (step s.group (state_of s c.node) e).report c.node.held k)
 
 -- A record that is no certificate of the number leaves that.
 other-record : (r : Record) (held : Holding) (b : Body) (k : ℕ) → r.body ≡ b → ((x : CertBody) → b ≡ Certificate x → x.member ≡ k → ⊥) → certificate_at (with_record r held (keys.Certificate k)) ≡ certificate_at (held (keys.Certificate k))
@@ -62,12 +62,14 @@ its-record r held x is =
 pub certificate-takes : (s : node.Setting) (r : Record) (c : Call) (k : ℕ) → ((x : CertBody) → r.body ≡ Certificate x → x.member ≡ k → ⊥) → certificate_of (takes s r c).node k ≡ certificate_of c.node k
 unfolding takes lives certificate_of
 certificate-takes s r c k free =
-    let report = (step s.group (state_of s c.node) (event_of s r.body)).report in
-    other-record r (without_ended report c.node.held) r.body k refl free ∙ ap certificate_at (ended-certificate report c.node.held k)
+    let report : Report = (step s.group (state_of s c.node) (event_of s r.body)).report in
+    let ended : Holding = without_ended report (retires s.heal report c.node.held) in
+    other-record r (without_removal r.body ended) r.body k refl free
+    ∙ ap certificate_at (removal-certificate r.body ended k ∙ ended-certificate s.heal report c.node.held k)
 
 certificate-taken : (s : node.Setting) (r : Record) (c : Call) (x : CertBody) → r.body ≡ Certificate x → certificate_of (takes s r c).node x.member ≡ Some x
 unfolding takes lives certificate_of
-certificate-taken s r c x is = its-record r (without_ended (step s.group (state_of s c.node) (event_of s r.body)).report c.node.held) x is
+certificate-taken s r c x is = its-record r (without_removal r.body (lives s (event_of s r.body) c).node.held) x is
 
 pub certificate-signs : (s : node.Setting) (b : Body) (c : Call) (k : ℕ) → ((x : CertBody) → b ≡ Certificate x → ⊥) → certificate_of (signs s b c).node k ≡ certificate_of c.node k
 unfolding signs certificate_of

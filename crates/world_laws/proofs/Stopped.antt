@@ -1,14 +1,15 @@
 -- A call in which the disk stops has come to nothing that the whole call doesn't: it spends no other indexes, and its life
 -- has no other events.
-use Rattle.std.proofs.Common.{◌≡◌, ℕ, zero, suc, Bool, true, false, eqb, cond, List, [], ◌∷◌, ◌++◌, Option, Some, None, inl, inr, refl, ap, sym, ◌∙◌, subst, take}
+use Rattle.std.proofs.Common.{◌≡◌, ℕ, zero, suc, Bool, true, false, cond, List, [], ◌∷◌, ◌++◌, Option, Some, None, inl, inr, refl, ap, sym, ◌∙◌, subst, take}
 use Rattle.std.specs.List.{slice_get}
 use Rattle.std.proofs.lemmas.Bool.{cond_both}
 use Rattle.ff_ids.specs.declared.Fault.{Fault}
+use Rattle.ff_ids.specs.declared.NoteBody.{NoteBody}
 use Rattle.ff_ids.specs.Views.{State}
 use Rattle.ff_ids.specs.Steps.{Event, Ticks as Passes, step}
 use Rattle.life_laws.proofs.Lists.{In, In-append_left, In-append_cases}
 use Rattle.records.specs.declared.Body.{Body}
-use Rattle.records.specs.declared.Body.TheVariants.{Certificate, Note, Accusation}
+use Rattle.records.specs.declared.Body.TheVariants.{Note, Accusation}
 use Rattle.records.specs.declared.Record.{Record}
 use Rattle.datagram.specs.declared.Datagram.{Datagram}
 use Rattle.detector.specs.Silence.{silent}
@@ -18,8 +19,8 @@ use Rattle.journal.specs.declared.event.What.TheVariants as told
 use Rattle.node_rules.specs.Nodes.{Setting, Node, state_of, event_of, neighbours, neighbours_and}
 use Rattle.node_rules.specs.Refusals.{refusal}
 use Rattle.node_rules.specs.Calls.{Call, begun, tells, lives, takes, spends, signs, wants, stops, sends, told_of, is_used_up}
-use Rattle.node_rules.specs.Deliveries.{answer_to, answers, judged, handles, handles_all, hears, delivered}
-use Rattle.node_rules.specs.Ticking.{accusation_on, ring_for, has_accused, wants_accusation, accuses, accuses_all, is_due, silent_in, pings_in, round_of, watched_by, passed, probed_at, due_tick, ticked, silent_at}
+use Rattle.node_rules.specs.Deliveries.{asked_with, gives_note, settles, judged, handles, handles_all, hears, delivered}
+use Rattle.node_rules.specs.Ticking.{accusation_on, ring_for, has_accused, wants_accusation, accuses, accuses_all, is_due, silent_in, pings_in, round_of, watched_by, passed, probed_at, spread_at, due_tick, ticked, silent_at}
 use Rattle.node_rules.specs.Leaving.{leaving, leaves, left}
 use Rattle.node_rules.specs.Lives.{Input, Delivers, Ticks, Leaves, call_of}
 use Rattle.node_rules.proofs.Called.{ComesSoFar, IsCutAccusing, IsCutAnswering, IsCutLeaving, delivered_until, left_until, ticked_until}
@@ -71,12 +72,15 @@ growing o p s =
       judged = λ r c any h. grows-tells o p s _ c h;
       sent = λ d c to h. grows-sends o p s d c to h;
       taken = λ r c any fine h. grows-takes o p s r c h;
-      answered = λ r a c any fine is me left h. grows-signs o p s _ (takes s r c) (grows-takes o p s r c h);
+      answered = λ r a c any fine is me may left h. grows-signs o p s _ (takes s r c) (grows-takes o p s r c h);
+      returned = λ r a c any asks may left h. grows-signs o p s _ c h;
       accused = λ a c by left h. grows-signs o p s (Accusation a) c h;
       departed = λ c left h. grows-signs o p s (leaving s c.node.stored) c h;
       stopped = λ c h. let x = grows-tells o p s told.Stopped c h in record { told = x.told; lived = x.lived };
       passed = λ c h. grows-lives o p s Passes c h;
       probed = λ x c h. record { told = h.told; lived = h.lived };
+      spanned = λ c h. record { told = h.told; lived = h.lived };
+      spread = λ c h. record { told = h.told; lived = h.lived };
     })
 
 -- ---- a step in which the disk stops
@@ -131,11 +135,9 @@ within-accuses s c m =
     cond_both (has_accused s (state_of s c.node) m) c (wants_accusation false s m ring c1) (Within c)
     (λ yes. within-same c) (λ no. within-then c c1 (wants_accusation false s m ring c1) (within-tells s (told.Silent m) c refl) (within-accusation s m ring c1))
 
-within-answers : (s : Setting) (b : Body) (c : Call) → Within c (answers false s b c)
-within-answers s (Certificate x) c = within-same c
-within-answers s (Note x) c = within-same c
-within-answers s (Accusation a) c =
-    cond_both (eqb a.accused s.me) (wants false s (answer_to s c.node.stored a) (neighbours s) c) c (Within c) (λ yes. within-wants s (answer_to s c.node.stored a) (neighbours s) c) (λ no. within-same c)
+within-gives_note : (s : Setting) (note : Option NoteBody) (c : Call) → Within c (gives_note false s note c)
+within-gives_note s None c = within-same c
+within-gives_note s (Some note) c = within-wants s (Note note) (neighbours s) c
 
 -- ---- the whole call behind it
 
@@ -155,19 +157,17 @@ within-grown c d grow =
     never : {X A : Type 0} (x : X) → None ≡ Some x → A
     never x e = cc
 
-grown-answers : (s : Setting) (o : Option journal.Event) (p : Option Event) (b : Body) (c : Call) → Holds o p c → Holds o p (answers true s b c)
-grown-answers s o p (Certificate x) c h = h
-grown-answers s o p (Note x) c h = h
-grown-answers s o p (Accusation a) c h =
-    cond_both (eqb a.accused s.me) (wants true s (answer_to s c.node.stored a) (neighbours s) c) c (Holds o p)
-    (λ yes. hands-wants s AnyRecord (Holds o p) (growing o p s) true (answer_to s c.node.stored a) (neighbours s) c h (λ left. grows-signs o p s (answer_to s c.node.stored a) c h))
-    (λ no. h)
+grown-gives_note : (s : Setting) (o : Option journal.Event) (p : Option Event) (note : Option NoteBody) (c : Call) → Holds o p c → Holds o p (gives_note true s note c)
+grown-gives_note s o p None c h = h
+grown-gives_note s o p (Some note) c h =
+    hands-wants s AnyRecord (Holds o p) (growing o p s) true (Note note) (neighbours s) c h (λ left. grows-signs o p s (Note note) c h)
 
 within-judged : (s : Setting) (fault : Option Fault) (r : Record) (c : Call) → Within (judged true s fault r c) (judged false s fault r c)
-within-judged s (Some fault) r c = within-same (tells s (told.Took r.body (Some fault)) c)
-within-judged s None r c =
-    let t : Call = takes s r (tells s (told.Took r.body None) c) in
-    within-then (answers true s r.body t) t (answers false s r.body t) (within-grown t (answers true s r.body t) (λ o p h. grown-answers s o p r.body t h)) (within-answers s r.body t)
+within-judged s fault r c =
+    let t : Call = settles s fault r c in
+    let note : Option NoteBody = asked_with s c.node fault r.body r in
+    within-then (gives_note true s note t) t (gives_note false s note t)
+    (within-grown t (gives_note true s note t) (λ o p h. grown-gives_note s o p note t h)) (within-gives_note s note t)
 
 within-handles : (s : Setting) (c : Call) (r : Record) → Within (handles true s c r) (handles false s c r)
 unfolding handles
@@ -223,17 +223,17 @@ none-silent s n place m at never = gone place (sym (ap (λ b. slice_get (cond b 
     gone k e = cc
 
 within-ticked : (s : Setting) (n : Node) (c : Call) → IsCutAccusing s n c → Within (ticked s n) c
-unfolding ticked ticked_until due_tick silent_at
+unfolding ticked ticked_until spread_at due_tick silent_at
 within-ticked s n c cut =
     let p : Node = (passed s n).node in
     let st : State = state_of s p in
     let silent : List ℕ = silent_in s p st in
     let sent : List (ℕ × ℕ) = pings_in s p st in
-    let d : Call = accuses_all s silent (probed_at s n) in
+    let d : Call = accuses_all s silent (spread_at s n) in
     let whole : Call = due_tick s silent sent (round_of s st) (probed_at s n) in
     subst (Within (ticked s n)) (sym cut.is)
     (cond_both (is_due s st) whole (probed_at s n) (λ (x : Call). Within x (ticked_until s n (take cut.place (silent_at s n)) cut.at))
-    (λ due. within-then whole d _ (within-grown d whole (λ o p h. hands-gossips s AnyRecord (Holds o p) (growing o p s) (round_of s st) sent d h)) (within-accused s silent cut.place cut.at (probed_at s n) cut.found))
+    (λ due. within-then whole d _ (within-grown d whole (λ o p h. hands-gossips s AnyRecord (Holds o p) (growing o p s) (round_of s st) sent d h)) (within-accused s silent cut.place cut.at (spread_at s n) cut.found))
     (λ never. absurd (none-silent s n cut.place cut.at cut.found never)))
 
 within-leaves : (s : Setting) (c : Call) → Within c (leaves false s c)

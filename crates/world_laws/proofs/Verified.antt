@@ -1,12 +1,13 @@
 -- Each accusation and each leaving note in a life of a world has come of a record which verifies under the key of who signed it.
-use Rattle.std.proofs.Common.{◌≡◌, ◌⊎◌, ℕ, ◌<◌, ◌≤◌, Bool, true, false, eqb, cond, List, [], ◌∷◌, ◌++◌, length, filter, Some, None, inl, inr, refl, ap, sym, ◌∙◌, subst, arith}
-use Rattle.std.specs.Prelude.{Ok, fold, option_map, option_to_list}
+use Rattle.std.proofs.Common.{◌≡◌, ◌⊎◌, ℕ, ◌<◌, ◌≤◌, Bool, true, false, eqb, cond, List, [], ◌∷◌, ◌++◌, length, filter, Option, Some, None, inl, inr, refl, ap, sym, ◌∙◌, subst, arith}
+use Rattle.std.specs.Prelude.{◌&&◌, Ok, fold, is_some, option_map, option_to_list}
 use Rattle.std.specs.List.{list_any, range_with_len, slice_get}
-use Rattle.std.proofs.lemmas.Bool.{cases_Bool, cond_both, eq-eqb, eqb-true, false≢true}
+use Rattle.std.proofs.lemmas.Bool.{and_parts, cases_Bool, cond_both, eq-eqb, eqb-true, false≢true}
 use Rattle.std.proofs.lemmas.Bool.Decides.{nat_tests}
 use Rattle.std.proofs.lemmas.List.{append_assoc}
 use Rattle.ff_ids.specs.declared.AccBody.{AccBody}
 use Rattle.ff_ids.specs.declared.NoteBody.{NoteBody}
+use Rattle.ff_ids.specs.declared.Fault.{Fault}
 use Rattle.ff_ids.specs.Faults.{accusation_fault, note_fault}
 use Rattle.ff_ids.specs.Masks.{all_rings, enabled, enables, good_mask, ring_count}
 use Rattle.ff_ids.specs.Notes.{is_leaving}
@@ -28,7 +29,7 @@ use Rattle.node_rules.specs.Nodes as node
 use Rattle.node_rules.specs.Nodes.{Node, state_of, event_of, public_key_of}
 use Rattle.node_rules.specs.Refusals.{refusal, refusal_of}
 use Rattle.node_rules.specs.Calls.{Call, begun, takes, signs}
-use Rattle.node_rules.specs.Deliveries.{answering_note, handles_all}
+use Rattle.node_rules.specs.Deliveries.{returning_note, may_rise, is_of_place, verifies_for, is_told, asked_of, asked_with, handles_all}
 use Rattle.node_rules.specs.Replies.{first_mask}
 use Rattle.node_rules.specs.Starting.{blank, opened, first_note, started}
 use Rattle.node_rules.specs.Leaving.{leaving, leaving_note}
@@ -72,6 +73,21 @@ good-not_none : (t : ℕ) → good_mask t 0 ≡ true → ⊥
 good-not_none t good =
     let none : length (enabled (ring_count t) 0) ≡ 0 = none-pass (enables 0) (range_with_len 0 (ring_count t)) (λ ring. none_above 0 0 ring (omega arith) (omega arith)) in
     absurd (omega (arith, none, (good_parts t 0 good).enough))
+
+-- A mask that is good, or that enables a ring, is of some ring.
+good-some : (t mask : ℕ) → good_mask t mask ≡ true → eqb mask 0 ≡ false
+good-some t mask good =
+    elim (cases_Bool (eqb mask 0)) [
+      | inl none ↦ absurd (good-not_none t (sym (ap (good_mask t) (eqb-true mask 0 none)) ∙ good))
+      | inr some ↦ some
+    ]
+
+enabling-some : (mask ring : ℕ) → enables mask ring ≡ true → eqb mask 0 ≡ false
+enabling-some mask ring on =
+    elim (cases_Bool (eqb mask 0)) [
+      | inl none ↦ absurd (false≢true (sym (none_above 0 0 ring (omega arith) (omega arith)) ∙ sym (ap (λ (k : ℕ). enables k ring) (eqb-true mask 0 none)) ∙ on))
+      | inr some ↦ some
+    ]
 
 -- ---- what removes, and what verifies
 
@@ -329,18 +345,45 @@ input-here s w m life Leaves d next place (Certificate c) removing h free x foun
 input-here s w m life Leaves d next place (Note note) removing h free x found = inr (left-here s w.signed m life d next place note h.of.is h.after x)
 input-here s w m life Leaves d next place (Accusation a) removing h free x found = absurd (note-not _ a x.is)
 
--- No answer of the node is a note by which it leaves, whatever records it has handled.
+-- ---- notes that are asked
+
+-- By it nobody leaves, where it is a note.
+abbrev Stays : Option NoteBody → Type 0
+Stays None = Unit {0}
+Stays (Some note) = is_leaving note ≡ false
+
+told-ring : (a b c d : Bool) → (a && b && c && d) ≡ true → c ≡ true
+told-ring a b true d h = refl
+told-ring true true false d h = cc
+told-ring true false false d h = cc
+told-ring false b false d h = cc
+
+asked_of-stays : (s : node.Setting) (n : Node) (f : Option Fault) (a : AccBody) (r : Record) → 1 ≤ s.group.t → KeepsOwnNote s n → refusal s n r ≡ f → r.body ≡ Accusation a → eqb a.accused s.me ≡ true → Stays (asked_of s n f a r)
+asked_of-stays s n None a r some own fine is me =
+    good-some s.group.t (answering_mask s.group.t n.stored.mask.0 a.ring.0) (answering-good s.group.t n.stored.mask.0 a.ring.0 (accused-asks s n r a some own fine is me))
+asked_of-stays s n (Some fault) a r some own fine is me =
+    cond_both (is_told s n fault a r) (Some (returning_note s n.stored)) None Stays
+    (λ heard. enabling-some n.stored.mask.0 a.ring.0 (told-ring (is_some s.heal) (is_of_place fault) (enables n.stored.mask.0 a.ring.0) (verifies_for s n a.accuser r) heard))
+    (λ no. tt)
+
+asked-stays : (s : node.Setting) (n : Node) (f : Option Fault) (b : Body) (r : Record) → 1 ≤ s.group.t → KeepsOwnNote s n → refusal s n r ≡ f → r.body ≡ b → Stays (asked_with s n f b r)
+asked-stays s n f (Certificate c) r some own fine is = tt
+asked-stays s n f (Note note) r some own fine is = tt
+asked-stays s n f (Accusation a) r some own fine is =
+    cond_both (eqb a.accused s.me && may_rise s.heal n) (asked_of s n f a r) None Stays
+    (λ yes. asked_of-stays s n f a r some own fine is (and_parts _ _ yes).0)
+    (λ no. tt)
+
+-- No note that is asked of the node is one by which it leaves, whatever records it has handled.
 none-answers : (s : Setting) (m : ℕ) (n : Node) (b : Body) → IsRemoving b → 1 ≤ s.group.t → KeepsOwnNote (setting_of s m) n → NoneAnswers (setting_of s m) (event_of (setting_of s m) b) (begun n)
 none-answers s m n (Certificate c) removing some own = absurd removing
-none-answers s m n (Accusation a) removing some own = λ earlier r x fine is me e. note-not _ a e
-none-answers s m n (Note note) removing some own = λ earlier r x fine is me e.
+none-answers s m n (Accusation a) removing some own = λ earlier r note asked e. note-not _ a e
+none-answers s m n (Note left) removing some own = λ earlier r note asked e.
     let mine : node.Setting = setting_of s m in
     let k : Node = (handles_all mine earlier (begun n)).node in
     let kept : KeepsOwnNote mine k = keeps-handles_all mine (λ c. KeepsOwnNote mine c.node) (keeping mine some) earlier (begun n) own in
-    let good : good_mask s.group.t (answering_mask s.group.t k.stored.mask.0 x.ring.0) ≡ true = answering-good s.group.t k.stored.mask.0 x.ring.0 (accused-asks mine k r x some kept fine is me) in
-    let same : answering_note mine k.stored x ≡ note = note-of (answering_note mine k.stored x) note e in
-    let none : answering_mask s.group.t k.stored.mask.0 x.ring.0 ≡ 0 = ap (λ (y : NoteBody). y.mask.0) same ∙ eqb-true note.mask.0 0 removing in
-    good-not_none s.group.t (sym (ap (good_mask s.group.t) none) ∙ good)
+    let stays : is_leaving note ≡ false = subst Stays asked (asked-stays mine k (refusal mine k r) r.body r some kept refl refl) in
+    absurd (false≢true (sym stays ∙ ap is_leaving (note-of note left e) ∙ removing))
 
 -- Behind one more call too each has come from there.
 called-come : (s : Setting) (w : World) (m : ℕ) (life : Life) (i : Input) (d : Disk) (place : ℕ) (b : Body) → IsRemoving b → Runs s w m life d → IsFree s w i
@@ -384,11 +427,7 @@ first-good : (t stored : ℕ) → good_mask t (first_mask t stored) ≡ true
 first-good t stored = cond_both (good_mask t stored) stored (all_rings t) (λ mask. good_mask t mask ≡ true) (λ good. good) (λ bad. all_rings-good t)
 
 first-some : (t stored : ℕ) → eqb (first_mask t stored) 0 ≡ false
-first-some t stored =
-    elim (cases_Bool (eqb (first_mask t stored) 0)) [
-      | inl none ↦ absurd (good-not_none t (sym (ap (good_mask t) (eqb-true _ _ none)) ∙ first-good t stored))
-      | inr some ↦ some
-    ]
+first-some t stored = good-some t (first_mask t stored) (first-good t stored)
 
 started-quiet : (s : Setting) (m : ℕ) (kept : Stored) (e : Event) → In (first_call s m kept).node.lived e → IsQuiet e
 unfolding started

@@ -7,6 +7,7 @@ use Rattle.std.proofs.lemmas.Bool.Decides.{nat_tests}
 use Rattle.std.proofs.lemmas.List.{append_assoc}
 use Rattle.ff_ids.specs.declared.TheConstants.{MEMBERS, MAX_TOLERANCE}
 use Rattle.ff_ids.specs.declared.Group.{Group}
+use Rattle.ff_ids.specs.Heals.{Heal}
 use Rattle.ff_ids.specs.Views.{all_numbers}
 use Rattle.lms_ots.specs.declared.OtsKind.{OtsKind}
 use Rattle.lms_tree.specs.declared.TreeKind.{TreeKind}
@@ -21,7 +22,7 @@ use Rattle.schedule_world.specs.declared.line.WorldLine.{WorldLine}
 use Rattle.schedule_world.specs.declared.line.WorldLine.TheVariants as lines
 use Rattle.schedule_world.specs.declared.text.WorldText.{WorldText}
 use Rattle.schedule_world.specs.declared.text.WorldText.TheVariants as world
-use Rattle.schedule_world.specs.Rows.{has_node, is_body, is_ended, is_grouped, is_headed, is_roster, is_start, row_for}
+use Rattle.schedule_world.specs.Rows.{has_node, is_below_kinds, is_body, is_ended, is_grouped, is_headed, is_roster, is_start, row_for}
 use Rattle.schedule_world.specs.Grammar.{InRange, IsWorld, Stands, after, behind, judge, opening}
 use Rattle.schedule_world.specs.Laws.{world-spelled}
 use Rattle.sign_keys.specs.Kinds.{is_in_profile}
@@ -117,7 +118,7 @@ abbrev pub Fits : WorldText → Roster → Type 0
 Fits world.Start r = IsEmpty r
 Fits world.Headed r = IsEmpty r
 Fits (world.Grouped t) r = IsEmpty r × HasGroup r
-Fits (world.Roster t names node) r = IsNamed r names
+Fits (world.Roster t heal names node) r = IsNamed r names
 Fits (world.Body t ticks) r = ⊥
 Fits world.Ended r = ⊥
 
@@ -162,9 +163,23 @@ kinds-line (world.Grouped t) r ots tree bottom stands range h =
     }
 kinds-line _ r ots tree bottom stands range h = absurd (false≢true stands)
 
+heal-line : (form : WorldText) (r : Roster) (h : Heal) → IsTrue (is_below_kinds form) → Fits form r → Fits (after form (lines.Heal h)) (record r { heal = Some h })
+heal-line (world.Roster t heal names node) r h stands fits =
+    record {
+      group = record { some = fits.group.some; few = fits.group.few };
+      count = fits.count;
+      few = fits.few;
+      kinds = fits.kinds;
+      nodes = fits.nodes;
+      liars = fits.liars;
+      numbered = fits.numbered;
+      apart = fits.apart;
+    }
+heal-line _ r h stands fits = absurd (false≢true stands)
+
 node-line : (form : WorldText) (r : Roster) (m : ℕ) → IsTrue (is_roster form) → InRange form (lines.Node m) → Fits form r → Fits (after form (lines.Node m)) (record r { correct = r.correct ++ m ∷ [] })
-node-line (world.Roster t names node) r m stands range h =
-    let new = newcomer-in (world.Roster t names node) m range in
+node-line (world.Roster t heal names node) r m stands range h =
+    let new = newcomer-in (world.Roster t heal names node) m range in
     record {
       group = record { some = h.group.some; few = h.group.few };
       count = omega (arith, h.count, length-append r.correct (m ∷ []), length-append names (m ∷ []));
@@ -178,8 +193,8 @@ node-line (world.Roster t names node) r m stands range h =
 node-line _ r m stands range h = absurd (false≢true stands)
 
 liar-line : (form : WorldText) (r : Roster) (m : ℕ) → IsTrue (is_roster form) → InRange form (lines.Liar m) → Fits form r → Fits (after form (lines.Liar m)) (record r { liars = r.liars ++ m ∷ [] })
-liar-line (world.Roster t names node) r m stands range h =
-    let new = newcomer-in (world.Roster t names node) m range in
+liar-line (world.Roster t heal names node) r m stands range h =
+    let new = newcomer-in (world.Roster t heal names node) m range in
     record {
       group = record { some = h.group.some; few = h.group.few };
       count = omega (arith, h.count, length-append r.liars (m ∷ []), length-append names (m ∷ []));
@@ -202,7 +217,7 @@ has-indexes r names h =
     omega (arith, listed, length-append r.correct r.liars, h.count, h.few, many-leaves r.kinds.tree)
 
 begin-line : (form : WorldText) (r : Roster) → IsTrue (has_node form) → Fits form r → IsPlayed (setting_in r) (begun_world (setting_in r)) [] × HasIndexes (setting_in r)
-begin-line (world.Roster t names node) r stands h = (record { fits = setting-fits r names h; verify = keys-verify r.group r.kinds r.correct r.liars h.kinds; reached = opens_so }, has-indexes r names h)
+begin-line (world.Roster t heal names node) r stands h = (record { fits = setting-fits r names h; verify = keys-verify r.group r.kinds r.heal r.correct r.liars h.kinds; reached = opens_so }, has-indexes r names h)
 begin-line _ r stands h = absurd (false≢true stands)
 
 no-body : (form : WorldText) (r : Roster) → IsTrue (is_body form) → Fits form r → ⊥
@@ -217,6 +232,7 @@ roster-line : (form : WorldText) (r : Roster) (l : WorldLine) → Stands form l 
 roster-line form r lines.Header stands range h = (header-line form r stands h, refl)
 roster-line form r (lines.Group g) stands range h = (group-line form r g stands range h, refl)
 roster-line form r (lines.Kinds ots tree bottom) stands range h = (kinds-line form r ots tree bottom stands range h, refl)
+roster-line form r (lines.Heal h) stands range fits = (heal-line form r h stands fits, refl)
 roster-line form r (lines.Node m) stands range h = (node-line form r m stands range h, refl)
 roster-line form r (lines.Liar m) stands range h = (liar-line form r m stands range h, refl)
 roster-line form r lines.Begin stands range h = begin-line form r stands h

@@ -1,9 +1,10 @@
 -- What no liar brings about, in each world that lines lead to, none of which is forged.
-use Rattle.std.specs.Prelude.{◌≡◌, ℕ, ◌+◌, ◌<◌, Bool, true, false, List, [], ◌∷◌, ◌++◌, length, Contains, Some, None}
+use Rattle.std.specs.Prelude.{◌≡◌, ℕ, ◌+◌, ◌<◌, Bool, true, false, List, [], ◌∷◌, ◌++◌, length, Contains, Option, Some, None}
 use Rattle.std.specs.List.{AllByRecursion, slice_get}
 use Rattle.ff_ids.specs.declared.AccBody.{AccBody}
 use Rattle.ff_ids.specs.declared.NoteBody.{NoteBody}
 use Rattle.ff_ids.specs.declared.Group.{Group}
+use Rattle.ff_ids.specs.Heals.{Heal}
 use Rattle.ff_ids.specs.declared.Fault.TheVariants as faults
 use Rattle.ff_ids.specs.Steps.{Accuses}
 use Rattle.ff_ids.specs.Notes.{is_leaving, newest}
@@ -119,14 +120,15 @@ SignaturesVerify s = (who : Owner) (index : ℕ) (body : Body) → index < index
 
 -- That holds of the keys that a world is opened with, whatever their kinds, of which there are keys.
 abbrev pub KeysVerify : Type 0
-KeysVerify = (g : Group) (kinds : Kinds) (correct liars : List ℕ) → is_in_profile kinds ≡ true → SignaturesVerify (setting_for g kinds correct liars)
+KeysVerify = (g : Group) (kinds : Kinds) (heal : Option Heal) (correct liars : List ℕ) → is_in_profile kinds ≡ true
+    → SignaturesVerify (setting_for g kinds heal correct liars)
 
 -- In each signature with a key of two levels the top leaf of its index signs the public key of its own bottom tree, which stands
 -- behind it: so it signs one message in all lives of the key, whatever they sign.
 abbrev pub TopLeavesSignOnce : Type 0
-TopLeavesSignOnce = (g : Group) (kinds : Kinds) (correct liars : List ℕ) (who : Owner) (index : ℕ) (body : Body)
-    → index < indexes_for (setting_for g kinds correct liars) who
-    → TopSignsTree (owner_key g kinds who) index (record_of (setting_for g kinds correct liars) (record { who = who; index = index; body = body })).signature
+TopLeavesSignOnce = (g : Group) (kinds : Kinds) (heal : Option Heal) (correct liars : List ℕ) (who : Owner) (index : ℕ) (body : Body)
+    → index < indexes_for (setting_for g kinds heal correct liars) who
+    → TopSignsTree (owner_key g kinds who) index (record_of (setting_for g kinds heal correct liars) (record { who = who; index = index; body = body })).signature
 
 -- The removal of the member at this place of the life rests on one accusation, of which all of this is said. The record of which
 -- it has come verifies under the key of the accuser's certificate, as the node keeps it. If the member is a node, it had itself

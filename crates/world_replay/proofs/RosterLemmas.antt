@@ -1,10 +1,11 @@
 -- What a line does to a roster that was read so far.
 use Rattle.std.proofs.Common.{◌≡◌, ◌⊎◌, ℕ, Bool, true, false, ◌||◌, eqb, List, [], ◌∷◌, ◌++◌, length, length-append, inl, inr, refl, ap, sym, ◌∙◌, subst, arith}
-use Rattle.std.specs.Prelude.{Option, Result, Ok, Err, IsTrue, Contains}
+use Rattle.std.specs.Prelude.{Option, Some, Result, Ok, Err, IsTrue, Contains}
 use Rattle.std.proofs.lemmas.Bool.{eqb-true, false≢true, false_from_ne_true, or_cases, or_left, or_right}
 use Rattle.std.proofs.lemmas.List.Folds.{list_any-append}
 use Rattle.life_laws.proofs.Lists.{In, Contains-from_In, some_passes}
 use Rattle.ff_ids.specs.declared.Group.{Group}
+use Rattle.ff_ids.specs.Heals.{Heal}
 use Rattle.lms_ots.specs.declared.OtsKind.{OtsKind}
 use Rattle.lms_tree.specs.declared.TreeKind.{TreeKind}
 use Rattle.line_text.specs.Answers.{Progress}
@@ -12,7 +13,7 @@ use Rattle.schedule_world.specs.declared.line.WorldLine.{WorldLine}
 use Rattle.schedule_world.specs.declared.line.WorldLine.TheVariants as lines
 use Rattle.schedule_world.specs.declared.text.WorldText.{WorldText}
 use Rattle.schedule_world.specs.declared.text.WorldText.TheVariants as form
-use Rattle.schedule_world.specs.Rows.{has_node, is_body, is_grouped, is_headed, is_roster, is_start, tolerance}
+use Rattle.schedule_world.specs.Rows.{has_node, is_below_kinds, is_body, is_grouped, is_headed, is_roster, is_start, tolerance}
 use Rattle.schedule_world.specs.Grammar.{InRange, Stands, after, behind, judge}
 use Rattle.schedule_world.proofs.GrammarLemmas.{height-low, kinds-fit, newcomer-in, world-in_range, world-stands}
 use Rattle.world_rules.specs.Keys.{setting_for}
@@ -121,9 +122,25 @@ kinds-line (form.Grouped t) r ots tree bottom stands range h =
     }
 kinds-line _ r ots tree bottom stands range h = absurd (false≢true stands)
 
+heal-line : (w : WorldText) (r : Roster) (h : Heal) → IsTrue (is_below_kinds w) → IsRead w r → IsRead (after w (lines.Heal h)) (record r { heal = Some h })
+heal-line (form.Roster t heal names node) r h stands read =
+    record {
+      group = read.group;
+      tolerance = read.tolerance;
+      kinds = read.kinds;
+      profile = read.profile;
+      some = read.some;
+      count = read.count;
+      few = read.few;
+      nodes = read.nodes;
+      liars = read.liars;
+      apart = read.apart;
+    }
+heal-line _ r h stands read = absurd (false≢true stands)
+
 node-line : (w : WorldText) (r : Roster) (m : ℕ) → IsTrue (is_roster w) → InRange w (lines.Node m) → IsRead w r → IsRead (after w (lines.Node m)) (record r { correct = r.correct ++ m ∷ [] })
-node-line (form.Roster t names node) r m stands range h =
-    let newcomer = newcomer-in (form.Roster t names node) m range in
+node-line (form.Roster t heal names node) r m stands range h =
+    let newcomer = newcomer-in (form.Roster t heal names node) m range in
     record {
       group = h.group;
       tolerance = h.tolerance;
@@ -139,8 +156,8 @@ node-line (form.Roster t names node) r m stands range h =
 node-line _ r m stands range h = absurd (false≢true stands)
 
 liar-line : (w : WorldText) (r : Roster) (m : ℕ) → IsTrue (is_roster w) → InRange w (lines.Liar m) → IsRead w r → IsRead (after w (lines.Liar m)) (record r { liars = r.liars ++ m ∷ [] })
-liar-line (form.Roster t names node) r m stands range h =
-    let newcomer = newcomer-in (form.Roster t names node) m range in
+liar-line (form.Roster t heal names node) r m stands range h =
+    let newcomer = newcomer-in (form.Roster t heal names node) m range in
     record {
       group = h.group;
       tolerance = h.tolerance;
@@ -165,13 +182,14 @@ no-body _ r stands h = absurd (false≢true stands)
 
 begin-plays : (w : WorldText) (r : Roster) → IsTrue (has_node w) → IsRead w r → IsPlaying (form.Body (tolerance w) 0) (setting_in r)
 unfolding setting_for
-begin-plays (form.Roster t names node) r stands h = h.tolerance
+begin-plays (form.Roster t heal names node) r stands h = h.tolerance
 begin-plays _ r stands h = absurd (false≢true stands)
 
 listed-fits : (w : WorldText) (r : Roster) (l : WorldLine) → Stands w l → InRange w l → IsRead w r → Fits (after w l) (listed setting_in r l)
 listed-fits w r lines.Header stands range h = header-line w r stands h
 listed-fits w r (lines.Group g) stands range h = group-line w r g stands range h
 listed-fits w r (lines.Kinds ots tree bottom) stands range h = kinds-line w r ots tree bottom stands range h
+listed-fits w r (lines.Heal heal) stands range h = heal-line w r heal stands h
 listed-fits w r (lines.Node m) stands range h = node-line w r m stands range h
 listed-fits w r (lines.Liar m) stands range h = liar-line w r m stands range h
 listed-fits w r lines.Begin stands range h = begin-plays w r stands h
@@ -183,6 +201,7 @@ still-playing : (w : WorldText) (s : Setting) (l : WorldLine) → Stands w l →
 still-playing (form.Body t ticks) s lines.Header stands h = absurd (false≢true stands)
 still-playing (form.Body t ticks) s (lines.Group g) stands h = absurd (false≢true stands)
 still-playing (form.Body t ticks) s (lines.Kinds ots tree bottom) stands h = absurd (false≢true stands)
+still-playing (form.Body t ticks) s (lines.Heal heal) stands h = absurd (false≢true stands)
 still-playing (form.Body t ticks) s (lines.Node m) stands h = absurd (false≢true stands)
 still-playing (form.Body t ticks) s (lines.Liar m) stands h = absurd (false≢true stands)
 still-playing (form.Body t ticks) s lines.Begin stands h = absurd (false≢true stands)
@@ -191,6 +210,7 @@ still-playing (form.Body t ticks) s l stands h = h
 still-playing form.Ended s lines.Header stands h = absurd (false≢true stands)
 still-playing form.Ended s (lines.Group g) stands h = absurd (false≢true stands)
 still-playing form.Ended s (lines.Kinds ots tree bottom) stands h = absurd (false≢true stands)
+still-playing form.Ended s (lines.Heal heal) stands h = absurd (false≢true stands)
 still-playing form.Ended s (lines.Node m) stands h = absurd (false≢true stands)
 still-playing form.Ended s (lines.Liar m) stands h = absurd (false≢true stands)
 still-playing form.Ended s lines.Begin stands h = absurd (false≢true stands)
@@ -220,7 +240,7 @@ fits-behind p bytes l (Plays s w) b judged is h =
 -- ---- the line `begin`
 
 can-begin : (w : WorldText) (r : Roster) → IsTrue (has_node w) → IsRead w r → CanBegin r
-can-begin (form.Roster t names node) r stands h =
+can-begin (form.Roster t heal names node) r stands h =
     record { group = h.group; some = h.some stands; few = omega (arith, h.count, h.few); kinds = h.kinds; profile = h.profile; apart = h.apart }
 can-begin _ r stands h = absurd (false≢true stands)
 

@@ -40,12 +40,12 @@ use Rattle.world_replay.proofs.SoakReadingLemmas.{read-again}
 
 small : (w : WorldText) → IsSound w → tolerance w ≤ MAX_TOLERANCE
 small (form.Grouped t) sound = sound
-small (form.Roster t names node) sound = sound
+small (form.Roster t heal names node) sound = sound
 small (form.Body t ticks) sound = sound.0
 small w sound = omega arith
 
 member-sound : (m : ℕ) (node : Bool) (w : WorldText) → IsSound w → IsSound (with_member m node w)
-member-sound m node (form.Roster t names before) sound = sound
+member-sound m node (form.Roster t heal names before) sound = sound
 member-sound m node form.Start sound = sound
 member-sound m node form.Headed sound = sound
 member-sound m node (form.Grouped t) sound = sound
@@ -57,7 +57,7 @@ tick-sound m n (form.Body t ticks) range sound = (sound.0, ticks-few (form.Body 
 tick-sound m n form.Start range sound = sound
 tick-sound m n form.Headed range sound = sound
 tick-sound m n (form.Grouped t) range sound = sound
-tick-sound m n (form.Roster t names before) range sound = sound
+tick-sound m n (form.Roster t heal names before) range sound = sound
 tick-sound m n form.Ended range sound = sound
 
 sound-after : (w : WorldText) (l : WorldLine) → IsSound w → InRange w l → IsOfWorkload l → IsSound (after w l)

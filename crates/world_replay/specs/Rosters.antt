@@ -42,7 +42,7 @@ abbrev pub IsRead : WorldText → Roster → Type 0
 IsRead form.Start r = IsUnlisted r
 IsRead form.Headed r = IsUnlisted r
 IsRead (form.Grouped t) r = IsUnlisted r × IsGroup r.group × (r.group.t ≡ t)
-IsRead (form.Roster t names node) r = IsListed t names node r
+IsRead (form.Roster t heal names node) r = IsListed t names node r
 IsRead (form.Body t ticks) r = ⊥
 IsRead form.Ended r = ⊥
 

@@ -7,7 +7,7 @@ ghost use Rattle.world.specs.Holding.{Holds};
 ghost use Rattle.world_text.specs.Lines.{Began, line_text};
 ghost use Rattle.world_replay.specs.Stages.{CanBegin, CanList, IsBehind};
 
-use ff_ids::{Group, MemberId};
+use ff_ids::{Group, Heal, MemberId};
 use fields::NoMemory;
 use lms_ots::OtsKind;
 use lms_tree::TreeKind;
@@ -18,11 +18,13 @@ use std::marker::Model;
 use world::World;
 use world_text::write_line;
 
-/// The group, the kinds of the members' keys, the nodes and the liars, as far as they were read.
+/// The group, the kinds of the members' keys, whether nodes that lost each other come together again, the nodes and
+/// the liars, as far as they were read.
 #[derive(Drop)]
 pub struct Roster {
     group: Group,
     kinds: Kinds,
+    heal: Option<Heal>,
     nodes: Vec<MemberId>,
     liars: Vec<MemberId>,
 }
@@ -35,6 +37,7 @@ impl Model for Roster {
     ghost view = { λ r. record {
       group = r.group;
       kinds = r.kinds;
+      heal = r.heal;
       correct = r.nodes.items;
       liars = r.liars.items;
     } };
@@ -86,6 +89,7 @@ impl Roster {
                 tree: TreeKind::H5,
                 bottom: None,
             },
+            heal: None,
             nodes: Vec::new(alloc),
             liars: Vec::new(alloc),
         }
@@ -106,6 +110,7 @@ impl Roster {
                     bottom: *bottom,
                 };
             }
+            WorldLine::Heal { heal } => self.heal = Some(*heal),
             WorldLine::Node { member } => self.nodes.push(*member)?,
             WorldLine::Liar { member } => self.liars.push(*member)?,
             WorldLine::Begin => return Ok(Some(self.open(alloc)?)),
@@ -129,6 +134,7 @@ impl Roster {
             &self.nodes,
             &self.liars,
             self.kinds.bottom,
+            self.heal,
         )
     }
 }

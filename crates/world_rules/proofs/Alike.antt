@@ -15,11 +15,11 @@ use Rattle.ff_ids.specs.Views.{State}
 use Rattle.node_rules.specs.Nodes.{Setting, Node, state_of}
 use Rattle.node_rules.specs.Calls.{Call, begun, signs_and_sends}
 use Rattle.node_rules.specs.Deliveries.{handles, hears}
-use Rattle.node_rules.specs.Ticking.{accuses, gossips, is_due, passed, pings_all, pings_in, probed_at, round_of, silent_in}
+use Rattle.node_rules.specs.Ticking.{accuses, gossips, is_due, passed, pings_all, pings_in, probed_at, round_of, silent_in, spreads}
 use Rattle.node_rules.specs.Leaving.{leaves}
 use Rattle.node_rules.specs.Lives.{Input, Delivers, Ticks, Leaves}
 use Rattle.node_rules.specs.OnDisks.{Storage, OnDisk, takes_step, goes_on, steps_on, handles_on, hears_on, delivered_on, accuses_on, due_on, ticked_on, left_on, called_on}
-use Rattle.world_rules.proofs.CallSteps.{StepIs, SpendsNothing, SpendsOne, MaySign, plain, signing, nothing-hears, nothing-gossips, nothing-probed_at, one-behind, one-signs_and_sends, step-handles, step-accuses, step-leaves}
+use Rattle.world_rules.proofs.CallSteps.{StepIs, SpendsNothing, SpendsOne, MaySign, plain, signing, nothing-hears, nothing-spreads, nothing-gossips, nothing-probed_at, one-behind, one-signs_and_sends, step-handles, step-accuses, step-leaves}
 
 -- Two kinds of disk that take the same of a node: where they stand alike for what the store keeps, they take the next entry
 -- or fail in it alike, and stand alike behind it.
@@ -160,9 +160,13 @@ due-same : {D E : Type 0} (s : Setting) (a : Storage D) (b : Storage E) (Stand :
     → IsSame Stand Fell (due_on a s silent pings round (record { call = c; disk = d })) (due_on b s silent pings round (record { call = c; disk = e }))
 unfolding due_on
 due-same s a b Stand Fell silent pings round c d e alike going st =
-    let x : OnDisk _ = fold (accuses_on a s) (record { call = c; disk = d }) silent in
-    let y : OnDisk _ = fold (accuses_on b s) (record { call = c; disk = e }) silent in
-    let h : IsSame Stand Fell x y = all-accused-same s a b Stand Fell silent (record { call = c; disk = d }) (record { call = c; disk = e }) alike (begun-same Stand Fell c d e going st) in
+    let c0 : Call = spreads s c in
+    let none : SpendsNothing s c c0 = nothing-spreads s c in
+    let st0 : Stand c0.node.stored d e = subst (λ (k : Stored). Stand k d e) (sym none.stored) st in
+    let x : OnDisk _ = fold (accuses_on a s) (record { call = c0; disk = d }) silent in
+    let y : OnDisk _ = fold (accuses_on b s) (record { call = c0; disk = e }) silent in
+    let h : IsSame Stand Fell x y =
+    all-accused-same s a b Stand Fell silent (record { call = c0; disk = d }) (record { call = c0; disk = e }) alike (begun-same Stand Fell c0 d e (none.ended ∙ going) st0) in
     subst (λ (k : Call). IsSame Stand Fell (goes_on (λ o. record o { call = gossips s round (pings_all s pings o.call) }) x) (goes_on (λ o. record o { call = gossips s round (pings_all s pings o.call) }) (record { call = k; disk = y.disk }))) h.call
     (behind-same s Stand Fell pings round x.call x.disk y.disk (these-same Stand Fell x y h))
 

@@ -1,10 +1,11 @@
 -- The small steps of a call: what each spends.
 use Rattle.std.proofs.Common.{◌≡◌, ◌⊎◌, ℕ, ◌+◌, ◌^◌, ◌<◌, Bool, true, false, eqb, cond, List, [], ◌∷◌, ◌++◌, Option, Some, None, inl, inr, refl, ap, sym, ◌∙◌, subst, map, arith}
-use Rattle.std.specs.Prelude.{Result, Ok, Err}
+use Rattle.std.specs.Prelude.{◌&&◌, Result, Ok, Err}
 use Rattle.std.specs.List.{cons_option}
 use Rattle.std.proofs.lemmas.Bool.{cases_Bool, cond_both}
 use Rattle.std.proofs.lemmas.List.Elements.{filter_map-append}
 use Rattle.ff_ids.specs.declared.AccBody.{AccBody}
+use Rattle.ff_ids.specs.declared.NoteBody.{NoteBody}
 use Rattle.ff_ids.specs.declared.Fault.{Fault}
 use Rattle.ff_ids.specs.declared.summary.Summary.{Summary}
 use Rattle.ff_ids.specs.Masks.{bits_where, ring_count}
@@ -28,8 +29,8 @@ use Rattle.ff_ids.proofs.BitLemmas.{bits-below}
 use Rattle.rebuttal.specs.Rebuttals.{answering_mask, is_enabled_by_answer}
 use Rattle.node_rules.specs.Refusals.{refusal}
 use Rattle.node_rules.specs.Calls.{Call, begun, tells, told_of, lives, takes, spends, signs, signs_and_sends, wants, stops, sends, sends_to_all, is_used_up, own_record}
-use Rattle.node_rules.specs.Deliveries.{answer_to, answers, judged, handles, is_other, gives, replies, exchanges, pinged, ponged_by, hears}
-use Rattle.node_rules.specs.Ticking.{accusation_on, ring_for, has_accused, wants_accusation, accuses, pings_all, summary_to, gossips, passed, probed_at}
+use Rattle.node_rules.specs.Deliveries.{answering_note, returning_note, may_rise, is_told, asked_of, asked_with, gives_note, settles, judged, handles, is_other, gives, replies, exchanges, pinged, ponged_by, hears}
+use Rattle.node_rules.specs.Ticking.{accusation_on, ring_for, has_accused, wants_accusation, accuses, fresh, spreads_all, spreads, pings_all, summary_to, gossips, passed, probed_at}
 use Rattle.node_rules.specs.Leaving.{leaving, leaves}
 use Rattle.world_rules.specs.Settings.{Signed}
 use Rattle.world_rules.specs.Steps.{signed_if_spent, signed_in}
@@ -159,17 +160,17 @@ MayFollow kept (Certificate c) = Unit {0}
 MayFollow kept (Note n) = n.epoch ≡ kept.epoch + 1
 MayFollow kept (Accusation a) = Unit {0}
 
--- A note enables no ring beyond those of a group of this tolerance.
-abbrev pub IsOnRings : ℕ → Body → Type 0
-IsOnRings t (Certificate c) = Unit {0}
-IsOnRings t (Note n) = n.mask.0 < 2 ^ ring_count t
-IsOnRings t (Accusation a) = Unit {0}
+-- A note enables the rings that the stored one does, or none beyond those of a group of this tolerance.
+abbrev pub IsOnRings : ℕ → Stored → Body → Type 0
+IsOnRings t kept (Certificate c) = Unit {0}
+IsOnRings t kept (Note n) = (n.mask ≡ kept.mask) ⊎ (n.mask.0 < 2 ^ ring_count t)
+IsOnRings t kept (Accusation a) = Unit {0}
 
 -- What a node may sign next: it may follow what the store keeps, which has an index left.
 pub record MaySign (s : Setting) (kept : Stored) (body : Body) : Type 0 where
   pub follows : MayFollow kept body
   pub left : eqb kept.next s.indexes ≡ false
-  pub rings : IsOnRings s.group.t body
+  pub rings : IsOnRings s.group.t kept body
 
 -- A step spends nothing where the disk works, or it wants one signature: that is made where the disk works, and else the
 -- life is over.
@@ -177,7 +178,8 @@ pub data StepIs (s : Setting) (c : Call) (f : Bool → Call) : Type 0 where
   plain : SpendsNothing s c (f true) → StepIs s c f
   signing : (d : Call) (body : Body) (to : State → List ℕ) → SpendsNothing s c d → MaySign s d.node.stored body → f true ≡ signs_and_sends s body to d → f false ≡ stops s d → StepIs s c f
 
-step-wants : (s : Setting) (c d : Call) (body : Body) (to : State → List ℕ) → SpendsNothing s c d → MayFollow d.node.stored body → IsOnRings s.group.t body → StepIs s c (λ works. wants works s body to d)
+step-wants : (s : Setting) (c d : Call) (body : Body) (to : State → List ℕ) → SpendsNothing s c d → MayFollow d.node.stored body → IsOnRings s.group.t d.node.stored body
+    → StepIs s c (λ works. wants works s body to d)
 unfolding wants
 step-wants s c d body to h may rings =
     elim (cases_Bool (is_used_up s d.node)) [
@@ -193,24 +195,40 @@ step-wants s c d body to h may rings =
     unused true x y e = cc
     unused false x y e = refl
 
-step-chosen : (s : Setting) (c d : Call) (b : Bool) (f : Bool → Call) → SpendsNothing s c d → StepIs s c f → StepIs s c (λ works. cond b (f works) d)
-step-chosen s c d true f h k = k
-step-chosen s c d false f h k = plain h
+-- what a record may ask
+abbrev AsksFit : Setting → Stored → Option NoteBody → Type 0
+AsksFit s kept None = Unit {0}
+AsksFit s kept (Some note) = MayFollow kept (Note note) × IsOnRings s.group.t kept (Note note)
 
-answer-rings : (s : Setting) (kept : Stored) (a : AccBody) → IsOnRings s.group.t (answer_to s kept a)
+answer-rings : (s : Setting) (kept : Stored) (a : AccBody) → (answering_note s kept a).mask.0 < 2 ^ ring_count s.group.t
 unfolding answering_mask
 answer-rings s kept a = bits-below (is_enabled_by_answer s.group.t kept.mask.0 a.ring.0) (ring_count s.group.t)
 
-step-answers : (s : Setting) (c d : Call) (body : Body) → SpendsNothing s c d → StepIs s c (λ works. answers works s body d)
-step-answers s c d (Certificate x) h = plain h
-step-answers s c d (Note x) h = plain h
-step-answers s c d (Accusation a) h = step-chosen s c d (eqb a.accused s.me) (λ works. wants works s (answer_to s d.node.stored a) (neighbours s) d) h (step-wants s c d (answer_to s d.node.stored a) (neighbours s) h refl (answer-rings s d.node.stored a))
+asked_of-fit : (s : Setting) (n : Node) (fault : Option Fault) (a : AccBody) (r : Record) → AsksFit s n.stored (asked_of s n fault a r)
+asked_of-fit s n None a r = (refl, inr (answer-rings s n.stored a))
+asked_of-fit s n (Some fault) a r = cond_both (is_told s n fault a r) (Some (returning_note s n.stored)) None (AsksFit s n.stored) (λ yes. (refl, inl refl)) (λ no. tt)
+
+asked-fit : (s : Setting) (n : Node) (fault : Option Fault) (body : Body) (r : Record) → AsksFit s n.stored (asked_with s n fault body r)
+asked-fit s n fault (Certificate x) r = tt
+asked-fit s n fault (Note x) r = tt
+asked-fit s n fault (Accusation a) r =
+    cond_both (eqb a.accused s.me && may_rise s.heal n) (asked_of s n fault a r) None (AsksFit s n.stored) (λ yes. asked_of-fit s n fault a r) (λ no. tt)
+
+step-gives_note : (s : Setting) (c d : Call) (note : Option NoteBody) → SpendsNothing s c d → AsksFit s d.node.stored note → StepIs s c (λ works. gives_note works s note d)
+step-gives_note s c d None h fit = plain h
+step-gives_note s c d (Some note) h fit = step-wants s c d (Note note) (neighbours s) h fit.0 fit.1
+
+nothing-settles : (s : Setting) (fault : Option Fault) (r : Record) (c : Call) → SpendsNothing s c (settles s fault r c)
+nothing-settles s (Some fault) r c = nothing-tells s (told.Took r.body (Some fault)) c refl
+nothing-settles s None r c =
+    let c1 : Call = tells s (told.Took r.body None) c in
+    nothing-then s c c1 (takes s r c1) (nothing-tells s (told.Took r.body None) c refl) (nothing-takes s r c1)
 
 step-judged : (s : Setting) (c : Call) (fault : Option Fault) (r : Record) → StepIs s c (λ works. judged works s fault r c)
-step-judged s c (Some fault) r = plain (nothing-tells s (told.Took r.body (Some fault)) c refl)
-step-judged s c None r =
-    let c1 : Call = tells s (told.Took r.body None) c in
-    step-answers s c (takes s r c1) r.body (nothing-then s c c1 (takes s r c1) (nothing-tells s (told.Took r.body None) c refl) (nothing-takes s r c1))
+step-judged s c fault r =
+    let note : Option NoteBody = asked_with s c.node fault r.body r in
+    let h : SpendsNothing s c (settles s fault r c) = nothing-settles s fault r c in
+    step-gives_note s c (settles s fault r c) note h (subst (λ (k : Stored). AsksFit s k note) (sym h.stored) (asked-fit s c.node fault r.body r))
 
 pub step-handles : (s : Setting) (c : Call) (r : Record) → StepIs s c (λ works. handles works s c r)
 unfolding handles
@@ -235,7 +253,7 @@ some-ring t = let fits : bits_where (λ ring. false) (ring_count t) < 2 ^ ring_c
 
 pub step-leaves : (s : Setting) (c : Call) → StepIs s c (λ works. leaves works s c)
 unfolding leaves
-step-leaves s c = step-wants s c c (leaving s c.node.stored) (neighbours s) (nothing-same s c) refl (some-ring s.group.t)
+step-leaves s c = step-wants s c c (leaving s c.node.stored) (neighbours s) (nothing-same s c) refl (inr (some-ring s.group.t))
 
 -- ---- the other parts of a call
 
@@ -251,9 +269,9 @@ nothing-exchanges : (s : Setting) (from : ℕ) (flag : Bool) (theirs : Summary) 
 nothing-exchanges s from flag theirs c =
     let c1 : Call = tells s (told.Summary from theirs.page flag) c in
     let h1 : SpendsNothing s c c1 = nothing-tells s (told.Summary from theirs.page flag) c refl in
-    let c2 : Call = gives s from (lacking c.node theirs) c1 in
+    let c2 : Call = gives s from (lacking c.node from theirs) c1 in
     cond_both (is_other s c.node from) (replies s from flag theirs.page c2) c1 (SpendsNothing s c)
-    (λ yes. nothing-then s c c1 _ h1 (nothing-then s c1 c2 _ (nothing-gives s from (lacking c.node theirs) c1) (nothing-replies s from flag theirs.page c2)))
+    (λ yes. nothing-then s c c1 _ h1 (nothing-then s c1 c2 _ (nothing-gives s from (lacking c.node from theirs) c1) (nothing-replies s from flag theirs.page c2)))
     (λ no. h1)
 
 nothing-pinged : (s : Setting) (from nonce : ℕ) (c : Call) → SpendsNothing s c (pinged s from nonce c)
@@ -280,6 +298,14 @@ nothing-hears s (Ok (kinds.Ping from nonce)) c other = nothing-pinged s from non
 nothing-hears s (Ok (kinds.Pong from nonce)) c other = nothing-ponged s from nonce c
 nothing-hears s (Ok (kinds.Summary from flag theirs)) c other = nothing-exchanges s from flag theirs c
 nothing-hears s (Ok (kinds.Records from records)) c other = absurd other
+
+nothing-spreads_all : (s : Setting) (records : List Record) (c : Call) → SpendsNothing s c (spreads_all s records c)
+nothing-spreads_all s [] c = nothing-same s c
+nothing-spreads_all s (r ∷ records) c = nothing-sends_to_all s (neighbours s (state_of s c.node)) (kinds.Records s.me (r ∷ records)) c
+
+pub nothing-spreads : (s : Setting) (c : Call) → SpendsNothing s c (spreads s c)
+unfolding spreads
+nothing-spreads s c = let h = nothing-spreads_all s (fresh c.node) c in record { signed = h.signed; stored = h.stored; ended = h.ended }
 
 nothing-pings_all : (s : Setting) (sent : List (ℕ × ℕ)) (c : Call) → SpendsNothing s c (pings_all s sent c)
 nothing-pings_all s [] c = nothing-same s c

@@ -13,7 +13,7 @@ use Rattle.datagram.specs.Grammar.{read_of}
 use Rattle.node_rules.specs.Nodes.{Setting, Node, state_of}
 use Rattle.node_rules.specs.Calls.{Call, begun, signs_and_sends, stops}
 use Rattle.node_rules.specs.Deliveries.{handles}
-use Rattle.node_rules.specs.Ticking.{accuses, gossips, is_due, passed, pings_all, pings_in, probed_at, round_of, silent_in}
+use Rattle.node_rules.specs.Ticking.{accuses, gossips, is_due, passed, pings_all, pings_in, probed_at, round_of, silent_in, spreads}
 use Rattle.node_rules.specs.OnDisks.{Input, Delivers, Ticks, Leaves, takes_step, steps_on, hears_on, accuses_on, delivered_on, due_on, ticked_on, left_on}
 use Rattle.node_rules.proofs.Called.{accused-on, ended-stays, handled-on, leaves_once, plain-step, put-step}
 pub use Rattle.node_rules.proofs.Called.{chosen, other}
@@ -21,7 +21,7 @@ use Rattle.world_rules.specs.Settings.{Signed}
 use Rattle.world_rules.specs.Disks.{Disk, ArmedStop, after_put, gate_of, left_by, opens_gate, put_passes, stopped_in_put, with_entry}
 use Rattle.world_rules.specs.Calls.{OnDisk, called_on, world_storage}
 use Rattle.world_rules.specs.Steps.{signed_in}
-use Rattle.world_rules.proofs.CallSteps.{SpendsNothing, SpendsOne, MayFollow, StepIs, plain, signing, nothing-tells, nothing-hears, nothing-gossips, nothing-probed_at, one-signs_and_sends, step-handles, step-accuses, step-leaves}
+use Rattle.world_rules.proofs.CallSteps.{SpendsNothing, SpendsOne, MayFollow, StepIs, plain, signing, nothing-tells, nothing-hears, nothing-spreads, nothing-gossips, nothing-probed_at, one-signs_and_sends, step-handles, step-accuses, step-leaves}
 
 pub next-after : (kept : Stored) (body : Body) → (stored_after kept body).next ≡ kept.next + 1
 next-after kept (Certificate x) = refl
@@ -130,9 +130,11 @@ sound-hears s P (Ok (kinds.Records from records)) d k sound =
 sound-due : (s : Setting) (P : Stored → List Signed → Type 0) (accused : List ℕ) (sent : List (ℕ × ℕ)) (round : ℕ) (d : OnDisk) → IsKept s.me P → Sound s.me P d → Sound s.me P (due_on world_storage s accused sent round d)
 unfolding due_on
 sound-due s P accused sent round d k sound =
-    let d1 : OnDisk = fold (accuses_on world_storage s) d accused in
+    let d0 : OnDisk = record d { call = spreads s d.call } in
+    let sound0 : Sound s.me P d0 = sound-nothing s P d (spreads s d.call) (nothing-spreads s d.call) sound in
+    let d1 : OnDisk = fold (accuses_on world_storage s) d0 accused in
     let sound1 : Sound s.me P d1 =
-    subst (Sound s.me P) (sym (accused-on world_storage s d accused)) (sound-steps s P (λ works c x. accuses works s c x) accused d k (step-accuses s) sound) in
+    subst (Sound s.me P) (sym (accused-on world_storage s d0 accused)) (sound-steps s P (λ works c x. accuses works s c x) accused d0 k (step-accuses s) sound0) in
     cond_both d1.call.ended d1 (record d1 { call = gossips s round (pings_all s sent d1.call) }) (Sound s.me P) (λ over. sound1)
     (λ going. sound-nothing s P d1 _ (nothing-gossips s round sent d1.call) sound1)
 

@@ -72,6 +72,7 @@ abbrev pub setting : ℕ → List ℕ → List ℕ → Setting
 setting indexes correct liars =
     record {
       group = group;
+      heal = None;
       indexes = indexes;
       authority_indexes = indexes;
       correct = correct;
@@ -161,7 +162,7 @@ unfolding all_numbers in_view_by started signs signs_and_sends wants takes lives
 gives_a_note = (refl, refl, refl)
 
 -- Its accusations are answered. The third is of the newest epoch that node 1 has signed.
-abbrev accuse : ℕ → Option ℕ → ℕ → List ℕ → WorldLine
+abbrev pub accuse : ℕ → Option ℕ → ℕ → List ℕ → WorldLine
 accuse accused epoch ring name = lines.SignAccusation 2 2 accused epoch (record { 0 = ring }) name
 
 abbrev pub before_b : World

@@ -18,7 +18,7 @@ use Rattle.node_rules.specs.Deliveries.{handles}
 use Rattle.node_rules.specs.Leaving.{leaves}
 use Rattle.node_rules.specs.Starting.{started}
 use Rattle.node_rules.specs.Pages.{page, partner, page_number, lacking}
-use Rattle.node_rules.specs.Ticking.{accuses, passed, probed_at}
+use Rattle.node_rules.specs.Ticking.{accuses, fresh, passed, probed_at, spreads}
 use Rattle.world_rules.specs.Settings.{Setting, nodes, members, by_authority}
 use Rattle.node_rules.specs.OnDisks.{accuses_on, delivered_on, due_on, handles_on, left_on, ticked_on}
 use Rattle.world_rules.specs.Worlds.{World, begun_world}
@@ -55,7 +55,7 @@ answer_left n c = (
 )
 
 stops_in_an_answer : each answer_stops (0 ∷ 1 ∷ 2 ∷ 3 ∷ []) (0 ∷ 1 ∷ 2 ∷ 183 ∷ []) ≡ each answer_left (0 ∷ 1 ∷ 2 ∷ 3 ∷ []) (0 ∷ 1 ∷ 2 ∷ 183 ∷ [])
-unfolding all_numbers in_view_by started signs signs_and_sends wants takes lives state_of handles refusal sends certificate_of neighbours neighbours_and answering_mask bits_where read_of whole_of datagram_at head_at items_at content_at records_at counted_at record_at body_at certificate_at note_at accusation_at key_at signature_at head_bytes records_bytes note_bytes accusation_bytes certificate_bytes key_bytes nodes members by_authority begun_world delivered_on handles_on forgery why_not calls hands starts starts_in_vain step page partner page_number lacking accuses passed probed_at summary_at entries_at entry_at entry_bytes summary_bytes ticked_on due_on accuses_on
+unfolding all_numbers in_view_by started signs signs_and_sends wants takes lives state_of handles refusal sends certificate_of neighbours neighbours_and answering_mask bits_where read_of whole_of datagram_at head_at items_at content_at records_at counted_at record_at body_at certificate_at note_at accusation_at key_at signature_at head_bytes records_bytes note_bytes accusation_bytes certificate_bytes key_bytes nodes members by_authority begun_world delivered_on handles_on forgery why_not calls hands starts starts_in_vain step page partner page_number lacking accuses passed probed_at summary_at entries_at entry_at entry_bytes summary_bytes ticked_on due_on accuses_on spreads fresh
 stops_in_an_answer = refl
 
 -- ---- in a start: five calls to open the store, and four to put the first note
@@ -71,12 +71,12 @@ abbrev start_left : ℕ → ℕ → Says × Says
 start_left n c = (answers verdicts.DiskStopped, (if nat_le 7 n && ((c == 1) || (c == 200)) then begins 1 1 2 7 else begins 1 0 1 7))
 
 stops_in_a_start : each start_stops (0 ∷ 1 ∷ 2 ∷ 3 ∷ 4 ∷ 5 ∷ 6 ∷ 7 ∷ 8 ∷ []) (0 ∷ 1 ∷ 2 ∷ 200 ∷ []) ≡ each start_left (0 ∷ 1 ∷ 2 ∷ 3 ∷ 4 ∷ 5 ∷ 6 ∷ 7 ∷ 8 ∷ []) (0 ∷ 1 ∷ 2 ∷ 200 ∷ [])
-unfolding all_numbers in_view_by started signs signs_and_sends wants takes lives state_of handles refusal sends certificate_of neighbours neighbours_and answering_mask bits_where read_of whole_of datagram_at head_at items_at content_at records_at counted_at record_at body_at certificate_at note_at accusation_at key_at signature_at head_bytes records_bytes note_bytes accusation_bytes certificate_bytes key_bytes nodes members by_authority begun_world delivered_on handles_on forgery why_not calls hands starts starts_in_vain step page partner page_number lacking accuses passed probed_at summary_at entries_at entry_at entry_bytes summary_bytes ticked_on due_on accuses_on
+unfolding all_numbers in_view_by started signs signs_and_sends wants takes lives state_of handles refusal sends certificate_of neighbours neighbours_and answering_mask bits_where read_of whole_of datagram_at head_at items_at content_at records_at counted_at record_at body_at certificate_at note_at accusation_at key_at signature_at head_bytes records_bytes note_bytes accusation_bytes certificate_bytes key_bytes nodes members by_authority begun_world delivered_on handles_on forgery why_not calls hands starts starts_in_vain step page partner page_number lacking accuses passed probed_at summary_at entries_at entry_at entry_bytes summary_bytes ticked_on due_on accuses_on spreads fresh
 stops_in_a_start = refl
 
 -- A stop that lets nine calls pass comes later.
 passes_nine : says one (new_armed 9 1) (lines.Start 1) ≡ begins 1 0 1 7
-unfolding all_numbers in_view_by started signs signs_and_sends wants takes lives state_of handles refusal sends certificate_of neighbours neighbours_and answering_mask bits_where read_of whole_of datagram_at head_at items_at content_at records_at counted_at record_at body_at certificate_at note_at accusation_at key_at signature_at head_bytes records_bytes note_bytes accusation_bytes certificate_bytes key_bytes nodes members by_authority begun_world delivered_on handles_on forgery why_not calls hands starts starts_in_vain step page partner page_number lacking accuses passed probed_at summary_at entries_at entry_at entry_bytes summary_bytes ticked_on due_on accuses_on
+unfolding all_numbers in_view_by started signs signs_and_sends wants takes lives state_of handles refusal sends certificate_of neighbours neighbours_and answering_mask bits_where read_of whole_of datagram_at head_at items_at content_at records_at counted_at record_at body_at certificate_at note_at accusation_at key_at signature_at head_bytes records_bytes note_bytes accusation_bytes certificate_bytes key_bytes nodes members by_authority begun_world delivered_on handles_on forgery why_not calls hands starts starts_in_vain step page partner page_number lacking accuses passed probed_at summary_at entries_at entry_at entry_bytes summary_bytes ticked_on due_on accuses_on spreads fresh
 passes_nine = refl
 
 -- ---- a key with three indexes
@@ -96,14 +96,14 @@ accused_last = plays brief third_life (lines.Start 1 ∷ lines.SignNote 2 (recor
 uses_up : (says brief third_life (lines.Start 1) ≡ begins 3 2 3 7)
     × (says brief accused_last (lines.Give (codes "b") 1) ≡ brings (told.Took (Accusation (acc 2 1 3 0)) None ∷ told.Exhausted 3 ∷ []))
     × (says brief (plays brief accused_last (lines.Give (codes "b") 1 ∷ lines.Stop 1 0 ∷ [])) (lines.Start 1) ≡ refused (whys.UsedUp 3))
-unfolding all_numbers in_view_by started signs signs_and_sends wants takes lives state_of handles refusal sends certificate_of neighbours neighbours_and answering_mask bits_where read_of whole_of datagram_at head_at items_at content_at records_at counted_at record_at body_at certificate_at note_at accusation_at key_at signature_at head_bytes records_bytes note_bytes accusation_bytes certificate_bytes key_bytes nodes members by_authority begun_world delivered_on handles_on forgery why_not calls hands starts starts_in_vain step page partner page_number lacking accuses passed probed_at summary_at entries_at entry_at entry_bytes summary_bytes ticked_on due_on accuses_on
+unfolding all_numbers in_view_by started signs signs_and_sends wants takes lives state_of handles refusal sends certificate_of neighbours neighbours_and answering_mask bits_where read_of whole_of datagram_at head_at items_at content_at records_at counted_at record_at body_at certificate_at note_at accusation_at key_at signature_at head_bytes records_bytes note_bytes accusation_bytes certificate_bytes key_bytes nodes members by_authority begun_world delivered_on handles_on forgery why_not calls hands starts starts_in_vain step page partner page_number lacking accuses passed probed_at summary_at entries_at entry_at entry_bytes summary_bytes ticked_on due_on accuses_on spreads fresh
 uses_up = (refl, refl, refl)
 
 -- The calls of a start in vain are among those that pass: to open a store of four entries takes eight.
 in_vain : (says brief (plays brief accused_last (lines.Stop 1 0 ∷ lines.Arm 1 7 1 ∷ [])) (lines.Start 1) ≡ answers verdicts.DiskStopped)
     × (says brief (plays brief accused_last (lines.Stop 1 0 ∷ lines.Arm 1 15 1 ∷ lines.Start 1 ∷ [])) (lines.Start 1) ≡ answers verdicts.DiskStopped)
     × (says brief (plays brief accused_last (lines.Stop 1 0 ∷ lines.Arm 1 16 1 ∷ lines.Start 1 ∷ [])) (lines.Start 1) ≡ refused (whys.UsedUp 3))
-unfolding all_numbers in_view_by started signs signs_and_sends wants takes lives state_of handles refusal sends certificate_of neighbours neighbours_and answering_mask bits_where read_of whole_of datagram_at head_at items_at content_at records_at counted_at record_at body_at certificate_at note_at accusation_at key_at signature_at head_bytes records_bytes note_bytes accusation_bytes certificate_bytes key_bytes nodes members by_authority begun_world delivered_on handles_on forgery why_not calls hands starts starts_in_vain step page partner page_number lacking accuses passed probed_at summary_at entries_at entry_at entry_bytes summary_bytes ticked_on due_on accuses_on
+unfolding all_numbers in_view_by started signs signs_and_sends wants takes lives state_of handles refusal sends certificate_of neighbours neighbours_and answering_mask bits_where read_of whole_of datagram_at head_at items_at content_at records_at counted_at record_at body_at certificate_at note_at accusation_at key_at signature_at head_bytes records_bytes note_bytes accusation_bytes certificate_bytes key_bytes nodes members by_authority begun_world delivered_on handles_on forgery why_not calls hands starts starts_in_vain step page partner page_number lacking accuses passed probed_at summary_at entries_at entry_at entry_bytes summary_bytes ticked_on due_on accuses_on spreads fresh
 in_vain = (refl, refl, refl)
 
 -- ---- in an accusation
@@ -123,7 +123,7 @@ abbrev accusation_left : ℕ → ℕ → Says × Says
 accusation_left n c = (Ok (None, tells 1 4 (told.Silent 2 ∷ told.Stopped ∷ [])), (if nat_le 2 n && ((c == 1) || (c == 183)) then begins 2 2 2 7 else begins 2 1 2 7))
 
 stops_in_an_accusation : each accusation_stops (0 ∷ 1 ∷ 2 ∷ 3 ∷ []) (0 ∷ 1 ∷ 2 ∷ 183 ∷ []) ≡ each accusation_left (0 ∷ 1 ∷ 2 ∷ 3 ∷ []) (0 ∷ 1 ∷ 2 ∷ 183 ∷ [])
-unfolding all_numbers in_view_by started signs signs_and_sends wants takes lives state_of handles refusal sends certificate_of neighbours neighbours_and answering_mask bits_where read_of whole_of datagram_at head_at items_at content_at records_at counted_at record_at body_at certificate_at note_at accusation_at key_at signature_at head_bytes records_bytes note_bytes accusation_bytes certificate_bytes key_bytes nodes members by_authority begun_world delivered_on handles_on forgery why_not calls hands starts starts_in_vain step page partner page_number lacking accuses passed probed_at summary_at entries_at entry_at entry_bytes summary_bytes ticked_on due_on accuses_on
+unfolding all_numbers in_view_by started signs signs_and_sends wants takes lives state_of handles refusal sends certificate_of neighbours neighbours_and answering_mask bits_where read_of whole_of datagram_at head_at items_at content_at records_at counted_at record_at body_at certificate_at note_at accusation_at key_at signature_at head_bytes records_bytes note_bytes accusation_bytes certificate_bytes key_bytes nodes members by_authority begun_world delivered_on handles_on forgery why_not calls hands starts starts_in_vain step page partner page_number lacking accuses passed probed_at summary_at entries_at entry_at entry_bytes summary_bytes ticked_on due_on accuses_on spreads fresh
 stops_in_an_accusation = refl
 
 -- ---- in the note by which a node leaves
@@ -139,11 +139,11 @@ abbrev leaving_left : ℕ → ℕ → Says × Says
 leaving_left n c = (brings (told.Stopped ∷ []), (if nat_le 2 n && ((c == 1) || (c == 183)) then begins 2 2 3 7 else begins 2 1 2 7))
 
 stops_in_leaving : each leaving_stops (0 ∷ 1 ∷ 2 ∷ 3 ∷ []) (0 ∷ 1 ∷ 2 ∷ 183 ∷ []) ≡ each leaving_left (0 ∷ 1 ∷ 2 ∷ 3 ∷ []) (0 ∷ 1 ∷ 2 ∷ 183 ∷ [])
-unfolding all_numbers in_view_by started signs signs_and_sends wants takes lives state_of handles refusal sends certificate_of neighbours neighbours_and answering_mask bits_where read_of whole_of datagram_at head_at items_at content_at records_at counted_at record_at body_at certificate_at note_at accusation_at key_at signature_at head_bytes records_bytes note_bytes accusation_bytes certificate_bytes key_bytes nodes members by_authority begun_world delivered_on handles_on forgery why_not calls hands starts starts_in_vain step page partner page_number lacking accuses passed probed_at summary_at entries_at entry_at entry_bytes summary_bytes ticked_on due_on accuses_on leaves left_on
+unfolding all_numbers in_view_by started signs signs_and_sends wants takes lives state_of handles refusal sends certificate_of neighbours neighbours_and answering_mask bits_where read_of whole_of datagram_at head_at items_at content_at records_at counted_at record_at body_at certificate_at note_at accusation_at key_at signature_at head_bytes records_bytes note_bytes accusation_bytes certificate_bytes key_bytes nodes members by_authority begun_world delivered_on handles_on forgery why_not calls hands starts starts_in_vain step page partner page_number lacking accuses passed probed_at summary_at entries_at entry_at entry_bytes summary_bytes ticked_on due_on accuses_on spreads fresh leaves left_on
 stops_in_leaving = refl
 
 -- A stop that lets four calls pass comes later; a key that is used up leaves by no note.
 leaves_else : (says one (plays one base (lines.Arm 1 4 1 ∷ [])) (lines.Leave 1) ≡ brings (told.Spent 1 (note 1 2 0) ∷ told.Removed 1 ∷ []))
     × (says brief (plays brief third_life (lines.Start 1 ∷ [])) (lines.Leave 1) ≡ brings (told.Exhausted 3 ∷ []))
-unfolding all_numbers in_view_by started signs signs_and_sends wants takes lives state_of handles refusal sends certificate_of neighbours neighbours_and answering_mask bits_where read_of whole_of datagram_at head_at items_at content_at records_at counted_at record_at body_at certificate_at note_at accusation_at key_at signature_at head_bytes records_bytes note_bytes accusation_bytes certificate_bytes key_bytes nodes members by_authority begun_world delivered_on handles_on forgery why_not calls hands starts starts_in_vain step page partner page_number lacking accuses passed probed_at summary_at entries_at entry_at entry_bytes summary_bytes ticked_on due_on accuses_on leaves left_on
+unfolding all_numbers in_view_by started signs signs_and_sends wants takes lives state_of handles refusal sends certificate_of neighbours neighbours_and answering_mask bits_where read_of whole_of datagram_at head_at items_at content_at records_at counted_at record_at body_at certificate_at note_at accusation_at key_at signature_at head_bytes records_bytes note_bytes accusation_bytes certificate_bytes key_bytes nodes members by_authority begun_world delivered_on handles_on forgery why_not calls hands starts starts_in_vain step page partner page_number lacking accuses passed probed_at summary_at entries_at entry_at entry_bytes summary_bytes ticked_on due_on accuses_on spreads fresh leaves left_on
 leaves_else = (refl, refl)

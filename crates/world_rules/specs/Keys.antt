@@ -2,6 +2,7 @@
 use Rattle.std.specs.Prelude.{ℕ, ◌+◌, ◌^◌, List, Option, Some, None}
 use Rattle.std.specs.Result.{is_ok}
 use Rattle.ff_ids.specs.declared.Group.{Group}
+use Rattle.ff_ids.specs.Heals.{Heal}
 use Rattle.lms_tree.specs.declared.TreeKind.{TreeKind}
 use Rattle.lms_tree.specs.Kinds.{height, leaf_count}
 use Rattle.records.specs.Keys.{verdict_of}
@@ -38,10 +39,11 @@ indexes_of kinds = indexes_by kinds.tree kinds.bottom
 
 -- What a world is opened with whose keys are of these kinds: hashed places, signatures over the signed bytes of a record,
 -- and their verdicts.
-unfoldable pub setting_for : Group → Kinds → List ℕ → List ℕ → Setting
-setting_for g kinds correct liars =
+unfoldable pub setting_for : Group → Kinds → Option Heal → List ℕ → List ℕ → Setting
+setting_for g kinds heal correct liars =
     record {
       group = g;
+      heal = heal;
       indexes = indexes_of kinds;
       authority_indexes = leaf_count kinds.tree;
       correct = correct;

@@ -2,6 +2,7 @@
 use Rattle.std.specs.Prelude.{ℕ, ◌+◌, Bool, false, ◌&&◌, ◌==◌, bytes_eq, List, [], ◌∷◌, ◌++◌, Option, Some, None, map}
 use Rattle.std.specs.List.{list_any}
 use Rattle.ff_ids.specs.declared.Group.{Group}
+use Rattle.ff_ids.specs.Heals.{Heal}
 use Rattle.ff_ids.specs.Faults.{same_accusation}
 use Rattle.records.specs.declared.keys.Key.{Key}
 use Rattle.records.specs.Keys.{key_bytes}
@@ -15,13 +16,14 @@ use Rattle.node_rules.specs.Nodes as node
 abbrev pub Owner : Type 0
 Owner = Option ℕ
 
--- What a world is opened with: the group, how many indexes the key of each member has, and how many the authority's, which
--- members are correct and which lie. What hashes and signatures are is no rule of a world: the places of a member on the
--- rings, whether a record's signature verifies under a key, the public half of an owner's key, the signature with it of an
--- index over a body, and the seed of the nonces of a member's life, by the next index that its store keeps as the life
--- begins.
+-- What a world is opened with: the group, whether nodes of it that lost each other are to come together again, how many
+-- indexes the key of each member has, and how many the authority's, which members are correct and which lie. What hashes
+-- and signatures are is no rule of a world: the places of a member on the rings, whether a record's signature verifies under
+-- a key, the public half of an owner's key, the signature with it of an index over a body, and the seed of the nonces of a
+-- member's life, by the next index that its store keeps as the life begins.
 pub record Setting : Type 0 where
   pub group : Group
+  pub heal : Option Heal
   pub indexes : ℕ
   pub authority_indexes : ℕ
   pub correct : List ℕ
@@ -104,6 +106,7 @@ setting_of s m =
       me = m;
       authority = s.key None;
       indexes = s.indexes;
+      heal = s.heal;
       places = s.places;
       verifies = s.verifies;
       signature = s.signature (Some m);

@@ -2,6 +2,7 @@
 -- key has spent are all read off it.
 use Rattle.std.specs.Prelude.{ℕ, ◌+◌, List, [], ◌∷◌, ◌++◌, length, Option, Some, None, Result, Ok, Err, flat_map, codes, decimal, replicate}
 use Rattle.ff_ids.specs.declared.Group.{Group}
+use Rattle.ff_ids.specs.Heals.{Heal}
 use Rattle.lms_ots.specs.declared.OtsKind.TheVariants.{W1}
 use Rattle.lms_tree.specs.declared.TreeKind.TheVariants.{H5}
 use Rattle.sign_keys.specs.declared.kinds.Kinds.{Kinds}
@@ -41,10 +42,12 @@ forgery_text f = owner_text f.who ++ codes " " ++ body_text f.body
 
 -- ## Lines
 
--- The roster, as far as it was read, with the group and the kinds of keys; none of these says anything before its line.
+-- The roster, as far as it was read, with the group, the kinds of keys and whether nodes that lost each other are to come
+-- together again; none of these says anything before its line.
 pub record Roster : Type 0 where
   pub group : Group
   pub kinds : Kinds
+  pub heal : Option Heal
   pub correct : List ℕ
   pub liars : List ℕ
 
@@ -52,6 +55,7 @@ abbrev pub no_roster : Roster
 no_roster = record {
   group = record { tag = replicate 16 0; t = 1; timeout = 1; period = 1; misses = 1 };
   kinds = record { ots = W1; tree = H5; bottom = None };
+  heal = None;
   correct = [];
   liars = [];
 }
@@ -71,12 +75,13 @@ abbrev pub just : Stage → Brought
 just stage = record { stage = stage; verdict = None; told = [] }
 
 abbrev pub setting_in : Roster → Setting
-setting_in r = setting_for r.group r.kinds r.correct r.liars
+setting_in r = setting_for r.group r.kinds r.heal r.correct r.liars
 
 -- A line of the roster. The line `begin` opens the world, by what makes a roster its setting.
 abbrev pub listed : (Roster → Setting) → Roster → WorldLine → Stage
 listed make r (lines.Group group) = Lists (record r { group = group })
 listed make r (lines.Kinds ots tree bottom) = Lists (record r { kinds = record { ots = ots; tree = tree; bottom = bottom } })
+listed make r (lines.Heal heal) = Lists (record r { heal = Some heal })
 listed make r (lines.Node m) = Lists (record r { correct = r.correct ++ m ∷ [] })
 listed make r (lines.Liar m) = Lists (record r { liars = r.liars ++ m ∷ [] })
 listed make r lines.Begin = Plays (make r) (begun_world (make r))

@@ -109,7 +109,7 @@ fn the_kit_of_a_life_has_what_the_authority_keeps(rt: HostRuntime) -> Result<(),
     let Key::Lms(public) = key_of_one(rt.alloc(), kinds)?.public() else {
         panic!(rt; "a key of two levels");
     };
-    let kit = Authority::new(rt.alloc(), GROUP, public).kit(rt.alloc(), MemberId::new(1), 0)?;
+    let kit = Authority::new(rt.alloc(), GROUP, None, public).kit(rt.alloc(), MemberId::new(1), 0)?;
     assert_eq!(rt; kit.me.get(), 1);
     assert!(rt; kit.certificates.is_empty());
     Ok(())

@@ -32,6 +32,7 @@ spelled (lines.Group g) = ap (λ (z : List ℕ). codes "group " ++ z) (five_word
 spelled (lines.Kinds ots tree None) =
     append-nil (codes "kinds " ++ decimal (width ots) ++ codes " " ++ decimal (height tree)) ∙ one_level (decimal (width ots)) (decimal (height tree))
 spelled (lines.Kinds ots tree (Some bottom)) = simp append_assoc refl
+spelled (lines.Heal h) = simp append_assoc refl
 spelled (lines.Node m) = refl
 spelled (lines.Liar m) = refl
 spelled lines.Begin = refl

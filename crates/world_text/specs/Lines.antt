@@ -61,6 +61,7 @@ abbrev pub line_text : WorldLine → List ℕ
 line_text lines.Header = codes "fireflies 1 world"
 line_text (lines.Group g) = group_text g
 line_text (lines.Kinds ots tree bottom) = kinds_text ots tree bottom
+line_text (lines.Heal h) = codes "heal " ++ decimal h.every ++ codes " " ++ decimal h.most
 line_text (lines.Node m) = codes "node " ++ decimal m
 line_text (lines.Liar m) = codes "liar " ++ decimal m
 line_text lines.Begin = codes "begin"

@@ -225,6 +225,12 @@ fn add_line(line: &WorldLine, out: &mut Vec<u8>) -> Result<(), NoMemory>
         WorldLine::Header => write_bytes(b"fireflies 1 world", out),
         WorldLine::Group { group } => add_group(group, out),
         WorldLine::Kinds { ots, tree, bottom } => add_kinds(*ots, *tree, *bottom, out),
+        WorldLine::Heal { heal } => add_of_two(
+            b"heal ",
+            heal.every().into(),
+            heal.most().into(),
+            out,
+        ),
         WorldLine::Node { member } => add_of_number(b"node ", member.get().into(), out),
         WorldLine::Liar { member } => add_of_number(b"liar ", member.get().into(), out),
         WorldLine::Begin => write_bytes(b"begin", out),

@@ -5,7 +5,7 @@ ghost use Rattle.ports.specs.MemoryClock.{NeverFalls};
 ghost use Rattle.records.specs.Spelling.{HasPort};
 
 use datagram::records_head;
-use ff_ids::{Group, MemberId};
+use ff_ids::{Group, Heal, MemberId};
 use fields::{Bytes, NoMemory};
 use fixtures::{Crew, Key, Kinds};
 use lms_ots::OtsKind;
@@ -19,7 +19,7 @@ use std::marker::Model;
 use std::test::Fail;
 
 /// Of 100 ticks the last is due.
-const GROUP: Group = Group {
+pub const GROUP: Group = Group {
     tag: [0; 16],
     t: 1,
     timeout: 400,
@@ -38,9 +38,10 @@ pub fn key_of(alloc: Global, number: u16) -> Result<Key, Fail> {
     Ok(Key::of(alloc, &GROUP.tag, number, KINDS)?)
 }
 
-/// Members 1 and 2, whose ports are 20,001 and 20,002.
-fn crew_of_two(alloc: Global) -> Result<Crew, Fail> {
-    let mut crew = Crew::open(alloc, GROUP, KINDS)?;
+/// Members 1 and 2 of this group, whose ports are 20,001 and 20,002.
+fn crew_of_two(alloc: Global, group: Group, heal: Option<Heal>) -> Result<Crew, Fail> {
+    let mut crew = Crew::open(alloc, group, KINDS)?;
+    crew.set_heal(heal);
     for number in 1..=2 {
         let public = key_of(alloc, number)?.public();
         crew.certify(alloc, MemberId::new(number), public)?;
@@ -61,18 +62,25 @@ fn begin_in(
     Ok(crew.begin(alloc, MemberId::new(1), key, disk, events)?)
 }
 
-/// Member 1 begins its first life.
-fn begin(alloc: Global, disk: &mut MemoryDisk) -> Result<Node, Fail>
+/// Member 1 of such a group begins its first life.
+fn begin(
+    alloc: Global,
+    group: Group,
+    heal: Option<Heal>,
+    disk: &mut MemoryDisk,
+) -> Result<Node, Fail>
     ensures { IfOk result (λ node. node.ended ≡ false) }
 {
-    let crew = crew_of_two(alloc)?;
+    let crew = crew_of_two(alloc, group, heal)?;
     begin_in(alloc, &crew, disk, &mut Events::new(alloc))
 }
 
-/// What a node is served with: what comes on its link, which sends fail, what the clock reads, and whether its disk stops
-/// in the next call.
+/// What a node of which group is served with: what comes on its link, which sends fail, what the clock reads, and whether its
+/// disk stops in the next call.
 #[derive(Drop)]
 pub struct Turns {
+    pub group: Group,
+    pub heal: Option<Heal>,
     pub answers: Vec<LinkAnswer>,
     pub fail_sends: Vec<u64>,
     pub times: Vec<u64>,
@@ -86,6 +94,8 @@ impl Turns {
         ensures { result.times.items ≡ [] }
     {
         Turns {
+            group: GROUP,
+            heal: None,
             answers,
             fail_sends: Vec::new(alloc),
             times: Vec::new(alloc),
@@ -169,7 +179,7 @@ fn serve_node(
 fn serve_on(alloc: Global, disk: &mut MemoryDisk, with: Turns) -> Result<Served, Fail>
     requires times { NeverFalls 0 with.times.items }
 {
-    let mut node = begin(alloc, disk)?;
+    let mut node = begin(alloc, with.group, with.heal, disk)?;
     let served = serve_node(alloc, &mut node, disk, with);
     drop(node);
     Ok(served?)

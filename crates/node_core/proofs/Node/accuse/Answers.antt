@@ -84,7 +84,7 @@ returns-clause-plays g c = λ s es os call p.
     let noted : newest st.notes m ≡ Some c.in-Some.note = sym (c.note_of.ensures.value st now.holds) ∙ some in
     let ring : ring_of s st m ≡ Some c.in-Some-ring_for.ring.0 =
     ring-of_note s st m c.in-Some.note noted ∙ sym (rings-same s v2 c1.node m c.in-Some.note now c.self-2.invariant.membership_group) ∙ sym (c.ring_for.ensures.ring st now.holds) ∙ ap (λ (o : Option RingNo). option_map (λ r. r.0) o) one in
-    let who = setting-me s v2.group v2.me v2.authority v2.signer.key now.setting in
+    let who = setting-me s v2.group v2.heal v2.me v2.authority v2.signer.key now.setting in
     runs-same s es os c.want_accusation.new.self (λ works. wants works s body (addressees s (Some m)) c1) wanted c.want_accusation.result
     (λ works. sym (ap (λ (o : Option ℕ). wants_accusation works s m o c1) ring ∙ ap (λ (b : Body). wants works s b (addressees s (Some m)) c1) (sym (body-is s st m v2.me c.in-Some.note c.in-Some-ring_for.ring who noted))))
     (c.want_accusation.ensures.plays s es os c1 at))))
@@ -138,7 +138,7 @@ returns-clause-fails g c = λ s es os call p.
     let noted : newest st.notes m ≡ Some c.in-Some.note = sym (c.note_of.ensures.value st now.holds) ∙ some in
     let ring : ring_of s st m ≡ Some c.in-Some-ring_for.ring.0 =
     ring-of_note s st m c.in-Some.note noted ∙ sym (rings-same s v2 c1.node m c.in-Some.note now c.self-2.invariant.membership_group) ∙ sym (c.ring_for.ensures.ring st now.holds) ∙ ap (λ (o : Option RingNo). option_map (λ r. r.0) o) one in
-    let who = setting-me s v2.group v2.me v2.authority v2.signer.key now.setting in
+    let who = setting-me s v2.group v2.heal v2.me v2.authority v2.signer.key now.setting in
     let wanted : Call = wants true s body (addressees s (Some m)) c1 in
     let same : wanted ≡ accuses true s call m =
     sym (ap (λ (o : Option ℕ). wants_accusation true s m o c1) ring ∙ ap (λ (b : Body). wants true s b (addressees s (Some m)) c1) (sym (body-is s st m v2.me c.in-Some.note c.in-Some-ring_for.ring who noted)))

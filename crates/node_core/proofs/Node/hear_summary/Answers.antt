@@ -17,7 +17,7 @@ returns-then-answers-clause-plays c = λ s es os call p.
     from-fine s es os c.args.self.now c.reply_page.new.self call (exchanges s c.args.from c.args.flag theirs call) p grows (extends-exchanges s c.args.from c.args.flag theirs call) (λ h.
     let other : is_other s call.node c.args.from ≡ true = sym (c.is_other-answers.ensures s call.node h.is) ∙ c.if-answers.true in
     let after = tells s (told.Summary c.args.from theirs.page c.args.flag) call in
-    let given = gives s c.args.from (lacking call.node theirs) after in
+    let given = gives s c.args.from (lacking call.node c.args.from theirs) after in
     subst (λ b. Plays s es os c.reply_page.new.self (cond b (replies s c.args.from c.args.flag theirs.page given) after)) (sym other)
     (c.reply_page.ensures.plays s es os given (c.give_lacking.ensures.plays s es os after (c.tell.ensures.plays s es os call p))))
 
@@ -27,6 +27,6 @@ returns-else-answers-clause-plays c = λ s es os call p.
     from-fine s es os c.args.self.now c.tell.new.self call (exchanges s c.args.from c.args.flag theirs call) p c.tell.ensures.grows (extends-exchanges s c.args.from c.args.flag theirs call) (λ h.
     let other : is_other s call.node c.args.from ≡ false = sym (c.is_other-answers.ensures s call.node h.is) ∙ c.if-answers.false in
     let after = tells s (told.Summary c.args.from theirs.page c.args.flag) call in
-    let given = gives s c.args.from (lacking call.node theirs) after in
+    let given = gives s c.args.from (lacking call.node c.args.from theirs) after in
     subst (λ b. Plays s es os c.tell.new.self (cond b (replies s c.args.from c.args.flag theirs.page given) after)) (sym other)
     (c.tell.ensures.plays s es os call p))

@@ -31,12 +31,13 @@ invariant_of-self c =
       some = i.some;
       few = i.few;
       period = i.period;
+      timeout = i.timeout;
       membership_group = c.tick.ensures.group ∙ i.membership_group;
       detector_group = i.detector_group;
       signer_group = i.signer_group;
       joined = still c.self.inside.membership c.tick.new.self c.self.inside.me c.tick.ensures.members i.joined;
       allowed = i.allowed;
-      notes = notes-ended c.self.inside.group Ticks c.self.inside.membership c.tick.new.self c.tick.new.out c.self.inside.records c.report.new.records steps (λ m. tt) c.report.ensures.records i.notes;
+      notes = notes-ended c.self.inside.heal c.self.inside.group Ticks c.self.inside.membership c.tick.new.self c.tick.new.out c.self.inside.records c.report.new.records steps (λ m. tt) c.report.ensures.records i.notes;
       newest_own = newest-same c.self.inside.group Ticks c.self.inside.membership c.tick.new.self c.tick.new.out c.self.inside.records c.self.inside.me steps i.notes tt ∙ i.newest_own;
       is_open = i.is_open;
     }

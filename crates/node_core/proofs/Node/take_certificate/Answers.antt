@@ -21,6 +21,7 @@ invariant_of-self c =
       some = i.some;
       few = i.few;
       period = i.period;
+      timeout = i.timeout;
       membership_group = c.add_member-fault.ensures.group ∙ i.membership_group;
       detector_group = i.detector_group;
       signer_group = i.signer_group;
@@ -56,6 +57,7 @@ returns-clause-grows c =
       before = refl;
       ended = refl;
       group = refl;
+      heal = refl;
       me = refl;
       roster = subst (KeepsCertificates v.roster) (sym c.put.ensures) (kept-inserted v.roster c.args.cert (ap (λ (w : Kept). kept_certificate w.roster c.args.cert.member) c.self.view_is ∙ c.requires.fresh));
     })

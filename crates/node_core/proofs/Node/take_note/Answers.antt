@@ -1,11 +1,39 @@
-use Rattle.std.proofs.Common.{◌≡◌, false, ap, subst, sym, ◌∙◌}
+use Rattle.std.proofs.Common.{◌≡◌, false, ap, refl, subst, sym, ◌∙◌}
 use Rattle.std.specs.Prelude.{nat_eq}
-use Rattle.node_core.specs.Playing.{Kept, Plays}
+use Rattle.ff_ids.specs.declared.summary.RecordKey.TheVariants as keys
+use Rattle.records.specs.declared.Body.TheVariants as bodies
+use Rattle.node_rules.specs.Calls.{Call}
+use Rattle.node_core.specs.News.{keeps}
+use Rattle.node_core.specs.Playing.{Kept, Plays, Grows, with_known}
 use Rattle.node_core.specs.Spending.{spent_told}
 use Rattle.node_core.specs.contracts.Node.{the_view}
 use Rattle.node_core.proofs.NotedLemmas.{still}
+use Rattle.node_core.proofs.PlayLemmas.{grows-adds, grows-trans, takes-fresh}
 use Rattle.node_core.proofs.SpendLemmas.{changes-none}
 use Rattle.node_core.proofs.Node.take_note.Goals as goal
+
+pub returns-clause-plays : goal.returns-clause-plays
+returns-clause-plays c = λ s es os call p.
+    let v : Kept = the_view c.self.inside in
+    let kept : Call = keeps s c.args.rec.rec call in
+    let mid = c.accept_note.ensures.plays s es os v call c.self.invariant.membership_group refl (subst (λ v. Plays s es os v call) (sym c.self.view_is) p) in
+    subst (Plays s es os c.add_news.new.self) (sym (takes-fresh s c.args.rec.rec (bodies.Note c.args.note) (keys.Note c.args.note.member) call c.requires.note tt refl))
+    (c.add_news.ensures.plays s es os kept mid)
+
+pub returns-clause-grows : goal.returns-clause-grows
+returns-clause-grows c =
+    let v : Kept = the_view c.self.inside in
+    let w : Kept = with_known v c.accept_note.new.membership c.accept_note.new.records c.accept_note.new.telling in
+    subst (λ (x : Kept). Grows x c.add_news.new.self) c.self.view_is
+    (grows-trans v w c.add_news.new.self (grows-adds v v.membership w.membership v.records w.records _ v.telling w.telling c.accept_note.ensures.told) c.add_news.ensures.grows)
+
+pub returns-clause-signs_nothing : goal.returns-clause-signs_nothing
+returns-clause-signs_nothing c = record {
+  signer = c.add_news.ensures.signs_nothing.signer ∙ ap (λ (v : Kept). v.signer) c.self.view_is;
+  told_none = c.add_news.ensures.signs_nothing.told_none
+      ∙ changes-none c.accept_note.new.membership.moment c.accept_note.new.changes c.self.inside.telling c.accept_note.new.telling c.accept_note.ensures.told
+      ∙ ap (λ (v : Kept). spent_told v.telling.events) c.self.view_is;
+}
 
 pub invariant_of-self : goal.invariant_of-self
 invariant_of-self c =
@@ -15,6 +43,7 @@ invariant_of-self c =
       some = i.some;
       few = i.few;
       period = i.period;
+      timeout = i.timeout;
       membership_group = c.accept_note.ensures.group ∙ i.membership_group;
       detector_group = i.detector_group;
       signer_group = i.signer_group;
@@ -24,13 +53,3 @@ invariant_of-self c =
       newest_own = c.accept_note.ensures.others c.self.inside.me other ∙ i.newest_own;
       is_open = i.is_open;
     }
-
-pub returns-clause-plays : goal.returns-clause-plays
-returns-clause-plays c = λ s es os call p.
-    c.accept_note.ensures.plays s es os (the_view c.self.inside) call c.self.invariant.membership_group (subst (λ v. Plays s es os v call) (sym c.self.view_is) p)
-
-pub returns-clause-signs_nothing : goal.returns-clause-signs_nothing
-returns-clause-signs_nothing c = record {
-  signer = ap (λ (v : Kept). v.signer) c.self.view_is;
-  told_none = changes-none c.accept_note.new.membership.moment c.accept_note.new.changes c.self.inside.telling c.accept_note.new.telling c.accept_note.ensures.told ∙ ap (λ (v : Kept). spent_told v.telling.events) c.self.view_is;
-}

@@ -30,7 +30,7 @@ returns-clause-step g c = λ s n is0 going.
     let is = subst (λ v. IsNode s v n) (sym c.self.view_is) is0 in
     let over : c.over.result ≡ record { events = es; sent = os; before = length os; failed = false } = c.over.ensures in
     let p : Plays s es os (record v { telling = c.over.result; ended = true }) (begun n) = plays-at s es os (record v { telling = c.over.result; ended = true }) (begun n) (record {
-      is = record { setting = is.setting; holds = is.holds; stored = is.stored; records = is.records; roster = is.roster; probes = is.probes };
+      is = record { setting = is.setting; holds = is.holds; stored = is.stored; records = is.records; roster = is.roster; probes = is.probes; news = is.news; since = is.since };
       told = ap (λ (t : Tellings). t.events) over ∙ sym (nil-right es);
       sent = ap (λ (t : Tellings). t.sent) over ∙ sym (nil-right os);
       before = ap (λ (t : Tellings). t.before) over;
@@ -72,7 +72,7 @@ returns-clause-follows g c = λ s n d is0 going told.
     let is = subst (λ v. IsNode s v n) (sym c.self.view_is) is0 in
     let over : c.over.result ≡ record { events = es; sent = os; before = length os; failed = false } = c.over.ensures in
     let p : Plays s es os (record v { telling = c.over.result; ended = true }) (begun n) = plays-at s es os (record v { telling = c.over.result; ended = true }) (begun n) (record {
-      is = record { setting = is.setting; holds = is.holds; stored = is.stored; records = is.records; roster = is.roster; probes = is.probes };
+      is = record { setting = is.setting; holds = is.holds; stored = is.stored; records = is.records; roster = is.roster; probes = is.probes; news = is.news; since = is.since };
       told = ap (λ (t : Tellings). t.events) over ∙ sym (nil-right es);
       sent = ap (λ (t : Tellings). t.sent) over ∙ sym (nil-right os);
       before = ap (λ (t : Tellings). t.before) over;

@@ -32,7 +32,11 @@ use Rattle.datagram.specs.declared.Datagram.TheVariants as kinds
 use Rattle.datagram.specs.Spelling.{datagram_bytes}
 use Rattle.node_core.specs.Playing.{with_known}
 use Rattle.node_core.proofs.PlayLemmas.{grows-trans, passed-on}
-use Rattle.node_core.proofs.SpendLemmas.{spent-then}
+use Rattle.node_core.proofs.SpendLemmas.{spent-then, nothing-trans}
+use Rattle.ff_ids.specs.declared.summary.RecordKey.TheVariants as keys
+use Rattle.node_rules.specs.Calls.{spends}
+use Rattle.node_core.specs.News.{keeps}
+use Rattle.node_core.proofs.PlayLemmas.{signs-fresh}
 use Rattle.node_core.proofs.Node.want_note.Goals as goal
 
 pub returns-in-Err-StoreFault-clause-plays : goal.returns-in-Err-StoreFault-clause-plays
@@ -51,18 +55,27 @@ returns-in-Note-clause-plays g c = λ s es os call p.
     let signed : Kept = record v { signer = c.sign_note.new.self } in
     let kept : Kept = with_known signed c.keep_own.new.membership c.keep_own.new.records c.keep_own.new.telling in
     let p0 = subst (λ v. Plays s es os v call) (sym c.self.view_is) p in
-    let grows = grows-trans signed kept c.send_own.new.self (c.keep_own.ensures.grows signed) c.send_own.ensures.grows in
+    let news : Kept = c.add_news.new.self in
+    let grows =
+    grows-trans signed kept c.send_own.new.self (c.keep_own.ensures.grows signed)
+    (grows-trans kept news c.send_own.new.self c.add_news.ensures.grows c.send_own.ensures.grows) in
     signed-at s es os v c.send_own.new.self call b (next_own s call.node c.args.mask) None c.sign_note.new.self c.in-Ok.rec c.state-index.result.next p0 c.self.invariant.signer_group c.in-Ok.ensures.answers.1 (ap (λ x. x.next) c.state-index.ensures) (λ n. next-own-is s v call.node c.args.mask n)
     (ap (λ x. x.key) c.in-Ok.ensures.after) (ap (λ x. x.state) c.in-Ok.ensures.after) c.in-Ok.ensures.signed grows
     (λ q e own.
     let note-is : bodies.Note c.in-Note.note ≡ b = search rules in
     let q1 = subst (λ (x : Body). Plays s es os signed (with_stored x call)) (sym note-is) q in
     let own1 = own ∙ ap (λ (x : Body). own_record s call.node x) (sym note-is) in
-    let done = c.keep_own.ensures.plays s es os signed call c.self.invariant.membership_group q1 e own1 in
+    let held = c.keep_own.ensures.plays s es os signed call c.self.invariant.membership_group refl q1 e own1 in
+    let fresh =
+    c.add_news.ensures.plays s es os
+    (keeps s (own_record s call.node (bodies.Note c.in-Note.note)) (spends s (bodies.Note c.in-Note.note) call)) held in
+    let done =
+    subst (Plays s es os news)
+    (signs-fresh s (bodies.Note c.in-Note.note) (keys.Note c.in-Note.note.member) call tt refl) fresh in
     let Spelled : List ℕ → Type 0 = λ x. IfOk c.datagram_of-bytes.result (λ bytes. bytes.items ≡ x) in
     let spelled = subst (λ (r : Record). Spelled (datagram_bytes (kinds.Records c.self.inside.me (r ∷ [])))) c.rec-in-Note.ensures.value c.datagram_of-bytes.ensures in
     subst (λ (x : Body). Plays s es os c.send_own.new.self (signs_and_sends s x (addressees s None) call)) note-is
-    (passed-on s es os call (bodies.Note c.in-Note.note) None signed kept c.send_own.new.self c.in-Ok.rec.rec Spelled q1 grows own1 done (λ x d q2 e2. c.send_own.ensures.plays s es os x d q2 e2) spelled))
+    (passed-on s es os call (bodies.Note c.in-Note.note) None signed news c.send_own.new.self c.in-Ok.rec.rec Spelled q1 grows own1 done (λ x d q2 e2. c.send_own.ensures.plays s es os x d q2 e2) spelled))
 
 pub returns-in-Err-Exhausted-clause-plays : goal.returns-in-Err-Exhausted-clause-plays
 returns-in-Err-Exhausted-clause-plays g c = λ s es os call p.
@@ -80,7 +93,10 @@ returns-in-Note-clause-spends g c =
     let b : Body = next_note c.self.inside.signer.state c.self.inside.me c.args.mask in
     let note-is : bodies.Note c.in-Note.note ≡ b = search rules in
     let lives = lives-signed c.self.inside.signer c.sign_note.new.self b (Ok c.in-Ok.rec) _ _ c.in-Ok.ensures in
-    signed-spends v c.args.self.now c.send_own.new.self c.sign_note.new.self _ _ c.state-index.result.next (bodies.Note c.in-Note.note) b c.self.view_is (sym c.has_failed.ensures ∙ c.if-has_failed.false) (ap (λ x. x.next) c.state-index.ensures) note-is lives (spent-then c.state-index.result.next (bodies.Note c.in-Note.note) signed (with_known signed c.keep_own.new.membership c.keep_own.new.records c.keep_own.new.telling) c.send_own.new.self (c.keep_own.ensures.spent signed) c.send_own.ensures.signs_nothing c.send_own.ensures.grows.going)
+    signed-spends v c.args.self.now c.send_own.new.self c.sign_note.new.self _ _ c.state-index.result.next
+    (bodies.Note c.in-Note.note) b c.self.view_is (sym c.has_failed.ensures ∙ c.if-has_failed.false)
+    (ap (λ x. x.next) c.state-index.ensures) note-is lives
+    (spent-then c.state-index.result.next (bodies.Note c.in-Note.note) signed (with_known signed c.keep_own.new.membership c.keep_own.new.records c.keep_own.new.telling) c.send_own.new.self (c.keep_own.ensures.spent signed) (nothing-trans (with_known signed c.keep_own.new.membership c.keep_own.new.records c.keep_own.new.telling) c.add_news.new.self c.send_own.new.self c.add_news.ensures.signs_nothing c.send_own.ensures.signs_nothing) (λ fine. c.add_news.ensures.grows.going (c.send_own.ensures.grows.going fine)))
 
 pub returns-in-Err-StoreFault-clause-spends : goal.returns-in-Err-StoreFault-clause-spends
 returns-in-Err-StoreFault-clause-spends g c =
@@ -110,7 +126,8 @@ returns-in-Err-OutOfMemory-clause-plays g c = λ s es os call p.
 pub returns-in-Note-clause-closed : goal.returns-in-Note-clause-closed
 returns-in-Note-clause-closed g c =
     let closed : SignerState → Bool = λ s. s.closed in
-    ap closed c.send_own.ensures.signs_nothing.signer ∙ ap closed c.in-Ok.ensures.after ∙ ap (λ (v : Kept). v.signer.closed) c.self.view_is
+    ap closed c.send_own.ensures.signs_nothing.signer ∙ ap closed c.add_news.ensures.signs_nothing.signer
+    ∙ ap closed c.in-Ok.ensures.after ∙ ap (λ (v : Kept). v.signer.closed) c.self.view_is
 
 pub returns-in-Err-Exhausted-clause-closed : goal.returns-in-Err-Exhausted-clause-closed
 returns-in-Err-Exhausted-clause-closed g c =
@@ -125,7 +142,7 @@ returns-in-Note-clause-stores g c =
     let x = (g.D.Disk.state c.args.disk.now).model in
     let y = (g.D.Disk.state c.sign_note.new.disk).model in
     subst (λ (w : Kept). Stores w.signer c.send_own.new.self.signer x y) c.self.view_is
-    (stores-signed v.signer c.sign_note.new.self c.send_own.new.self.signer b c.in-Ok.rec x y c.in-Ok.ensures.after c.send_own.ensures.signs_nothing.signer c.in-Ok.ensures.follows)
+    (stores-signed v.signer c.sign_note.new.self c.send_own.new.self.signer b c.in-Ok.rec x y c.in-Ok.ensures.after (c.send_own.ensures.signs_nothing.signer ∙ c.add_news.ensures.signs_nothing.signer) c.in-Ok.ensures.follows)
 
 pub returns-in-Err-StoreFault-clause-fails : goal.returns-in-Err-StoreFault-clause-fails
 returns-in-Err-StoreFault-clause-fails g c = λ s es os call p fine.
@@ -160,4 +177,5 @@ returns-in-Note-clause-grows g c =
     let v : Kept = the_view c.self.inside in
     let signed : Kept = record v { signer = c.sign_note.new.self } in
     let kept : Kept = with_known signed c.keep_own.new.membership c.keep_own.new.records c.keep_own.new.telling in
-    subst (λ (w : Kept). Grows w c.send_own.new.self) c.self.view_is (grows-signer v c.send_own.new.self c.sign_note.new.self (grows-trans signed kept c.send_own.new.self (c.keep_own.ensures.grows signed) c.send_own.ensures.grows))
+    subst (λ (w : Kept). Grows w c.send_own.new.self) c.self.view_is
+    (grows-signer v c.send_own.new.self c.sign_note.new.self (grows-trans signed kept c.send_own.new.self (c.keep_own.ensures.grows signed) (grows-trans kept c.add_news.new.self c.send_own.new.self c.add_news.ensures.grows c.send_own.ensures.grows)))

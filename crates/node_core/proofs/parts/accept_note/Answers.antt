@@ -1,19 +1,25 @@
-use Rattle.std.proofs.Common.{rules, refl, subst}
+use Rattle.std.proofs.Common.{rules, refl, subst, ap, ◌∙◌, Option}
+use Rattle.std.specs.FinMap.{insert}
+use Rattle.ff_ids.specs.Heals.{Heal}
 use Rattle.ff_ids.specs.Steps.{Notes}
 use Rattle.records.specs.declared.Body.TheVariants as bodies
 use Rattle.node_core.specs.Playing.{with_known}
+use Rattle.record_set.specs.Held.{Held, key_of}
+use Rattle.node_core.specs.Records.{without_all, ended_all}
 use Rattle.node_core.specs.Told.{Adds, with_report}
 use Rattle.node_core.proofs.NotedLemmas.{newest-more, newest-same, notes-note}
-use Rattle.node_core.proofs.PlayLemmas.{lives-plays, note-steps, takes-plays}
+use Rattle.node_core.proofs.PlayLemmas.{lives-plays, note-steps, keeps-plays}
 use Rattle.node_core.proofs.parts.accept_note.Goals as goal
 
 pub returns-clause-plays : goal.returns-clause-plays
-returns-clause-plays c = λ s es os v call group p.
+returns-clause-plays c = λ s es os v call group heal p.
     let steps = note-steps v.group c.args.membership.now c.put_note-fault.new.self c.put_note-fault.new.out c.args.note c.put_note-fault.result group
     c.put_note-fault.ensures.fault c.put_note-fault.ensures.step c.put_note-fault.ensures.changes c.put_note-fault.ensures.same c.put_note-fault.ensures.emptied in
+    let ended = c.report.ensures.records ∙ ap (λ (h : Option Heal). without_all (ended_all h c.args.records.now c.put_note-fault.new.out.expired) c.put_note-fault.new.out.fell) heal in
     let lived = lives-plays s es os (with_known v c.args.membership.now c.args.records.now c.args.telling.now) call (Notes c.args.note) c.put_note-fault.new.self c.report.new.records c.report.new.telling c.put_note-fault.new.out
-    p steps c.report.ensures.records (subst (λ m. Adds (with_report m c.put_note-fault.new.out) c.args.telling.now c.report.new.telling) c.now.ensures.moment c.report.ensures.told) in
-    takes-plays s es os (with_known v c.put_note-fault.new.self c.report.new.records c.report.new.telling) call c.args.rec (bodies.Note c.args.note) c.put.new.self c.requires.note tt c.put.ensures.held lived
+    p steps ended (subst (λ m. Adds (with_report m c.put_note-fault.new.out) c.args.telling.now c.report.new.telling) c.now.ensures.moment c.report.ensures.told) in
+    let held = c.put.ensures.held ∙ ap (λ (set : Held). insert set (key_of c.args.rec.rec.body) c.args.rec) c.drop_removal.ensures in
+    keeps-plays s es os (with_known v c.put_note-fault.new.self c.report.new.records c.report.new.telling) call c.args.rec (bodies.Note c.args.note) c.put.new.self c.requires.note tt held lived
 
 pub returns-clause-told : goal.returns-clause-told
 returns-clause-told c = subst (λ m. Adds (with_report m c.put_note-fault.new.out) c.args.telling.now c.report.new.telling) c.now.ensures.moment c.report.ensures.told
@@ -22,7 +28,8 @@ pub returns-clause-notes : goal.returns-clause-notes
 returns-clause-notes c =
     let steps = note-steps c.args.membership.now.group c.args.membership.now c.put_note-fault.new.self c.put_note-fault.new.out c.args.note c.put_note-fault.result refl
     c.put_note-fault.ensures.fault c.put_note-fault.ensures.step c.put_note-fault.ensures.changes c.put_note-fault.ensures.same c.put_note-fault.ensures.emptied in
-    notes-note c.args.membership.now.group c.args.note c.args.membership.now c.put_note-fault.new.self c.put_note-fault.new.out c.args.records.now c.report.new.records c.put.new.self c.args.rec steps c.requires.note (search rules) c.report.ensures.records c.put.ensures.held c.requires.notes
+    notes-note c.args.heal c.args.membership.now.group c.args.note c.args.membership.now c.put_note-fault.new.self c.put_note-fault.new.out c.args.records.now c.report.new.records c.drop_removal.new.self c.put.new.self c.args.rec steps c.requires.note (search rules)
+    c.report.ensures.records c.drop_removal.ensures c.put.ensures.held c.requires.notes
 
 pub returns-clause-others : goal.returns-clause-others
 returns-clause-others c = λ m other.

@@ -4,18 +4,18 @@ use Rattle.records.specs.declared.Body.{Body}
 use Rattle.records.specs.declared.Body.TheVariants as bodies
 use Rattle.node_core.specs.Playing.{Kept, with_known}
 use Rattle.node_core.specs.Signatures.{with_stored}
-use Rattle.node_core.proofs.PlayLemmas.{grows-adds, grows-trans, kept-plays, tells-plays}
+use Rattle.node_core.proofs.PlayLemmas.{grows-adds, grows-trans, own-kept, tells-plays}
 use Rattle.node_core.proofs.SpendLemmas.{changes-none, event-spent, spent-then}
 use Rattle.node_core.proofs.parts.keep_own.Goals as goal
 
 pub returns-clause-plays : goal.returns-clause-plays
-returns-clause-plays c = λ s es os v call group p at own.
+returns-clause-plays c = λ s es os v call group heal p at own.
     let b : Body = bodies.Note c.args.note.now in
     let v0 : Kept = with_known v c.args.membership.now c.args.records.now c.args.telling.now in
     let v1 : Kept = with_known v c.args.membership.now c.args.records.now c.tell_spent.new.self in
     let v2 : Kept = with_known v c.accept_note.new.membership c.accept_note.new.records c.accept_note.new.telling in
-    kept-plays s es os call b v1 v2 c.args.index c.args.rec.rec at own (tells-plays s es os v0 (with_stored b call) (told.Spent c.args.index b) c.now.result c.tell_spent.new.self p c.now.ensures.moment c.tell_spent.ensures)
-    (λ x q. c.accept_note.ensures.plays s es os v x group q)
+    own-kept s es os call b v1 v2 c.args.index c.args.rec.rec at own (tells-plays s es os v0 (with_stored b call) (told.Spent c.args.index b) c.now.result c.tell_spent.new.self p c.now.ensures.moment c.tell_spent.ensures)
+    (λ x q. c.accept_note.ensures.plays s es os v x group heal q)
 
 pub returns-clause-grows : goal.returns-clause-grows
 returns-clause-grows c = λ v.

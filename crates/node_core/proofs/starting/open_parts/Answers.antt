@@ -11,12 +11,12 @@ use Rattle.node_core.proofs.BeginLemmas.{at-opening, none-blank, other-told, not
 use Rattle.node_core.proofs.starting.open_parts.Goals as goal
 
 pub returns-clause-opened : goal.returns-clause-opened
-returns-clause-opened c = λ s me authority signer setting.
+returns-clause-opened c = λ s heal me authority signer setting.
     let certificates : List Record = recs_of c.args.certificates.items in
     let roll = c.in_ok-roll.roll in
     let p : Parts = record { roll = roll; detector = c.in_ok-detector.detector; changes = c.in_ok-changes.changes; found = c.in_ok-found.found } in
-    let v : Kept = kept_in c.args.group.now me authority signer p nothing_told in
-    let first = at-opening s c.args.seed v setting c.in_ok-roll.ensures.holds c.in_ok-roll.ensures.records c.in_ok-roll.ensures.roster c.in_ok-detector.ensures.holds refl in
+    let v : Kept = kept_in c.args.group.now heal me authority signer p nothing_told in
+    let first = at-opening s c.args.seed v setting c.in_ok-roll.ensures.holds c.in_ok-roll.ensures.records c.in_ok-roll.ensures.roster c.in_ok-detector.ensures.holds refl refl refl in
     let call = begun (blank s c.args.seed signer.state) in
     let new = new-apart s call certificates c.requires.apart (all-free call certificates (λ m. none-blank s c.args.seed signer.state m) c.requires.apart) in
     let at = c.take_all.ensures.plays s [] [] v call first (sym c.in_ok-roll.ensures.group) refl new in

@@ -4,14 +4,15 @@ use Rattle.ports.specs.Count.{Rose}
 use Rattle.ports.specs.Outside.{OfLink}
 use Rattle.node_loop.specs.declared.fault.ServeFault.{ServeFault}
 use Rattle.node_loop.specs.declared.fault.ServeFault.TheVariants as faults
-use Rattle.node_loop.specs.Turns.{Act, Outlook, room, after_turn, life_acts, turn_acts, turn_in, turns_from}
+use Rattle.node_loop.specs.declared.turns.Pace.{Pace}
+use Rattle.node_loop.specs.Turns.{Act, Outlook, room, after_turn, life_acts, pace_for, turn_acts, turn_in, turns_from}
 use Rattle.node_loop.specs.Courses.{ServeState, served, served_from}
 use Rattle.node_loop.specs.Serving.{Sees, Serves}
 use Rattle.node_loop.specs.Writing.{Before, Stands, Standing, before_all, standing}
 use Rattle.node_loop.proofs.LineLemmas.{goes-as, goes-from, goes-same, goes-trans}
 use Rattle.node_loop.proofs.SendLemmas.{thrown}
 use Rattle.node_loop.proofs.TellLemmas.{at-within}
-use Rattle.node_loop.proofs.TurnLemmas.{Turned, at-pace, base-read, begins-at, begins-seeing, first_outlook, length-kept, life-ends, life-is, life-leaves, life-stays, turned-ends, turned-first, turned-last, turned-next, unheard-turn}
+use Rattle.node_loop.proofs.TurnLemmas.{Turned, at-pace, base-read, begins-at, begins-seeing, first_outlook, length-kept, life-ends, life-is, life-leaves, life-stays, pace-is, pace-kept, pace_in, turned-ends, turned-first, turned-last, turned-next, unheard-turn}
 use Rattle.node_loop.proofs.serving.serve.Goals as goal
 
 pub returns-in_default-clause-spends : goal.returns-in_default-clause-spends
@@ -26,7 +27,7 @@ returns-in_default-clause-serves g c = λ s n link_told readings is link_is comi
     let start : ServeState = served_from n link_told in
     let w : Standing = standing c.args.node.now link taken moments 0 in (
       0,
-      unheard-turn s before w start (life_acts c.args.millis c.args.turns c.args.leave link_told.coming (g.C.Clock.state c.args.clock.now).reading readings)
+      unheard-turn s before w start (life_acts (pace_for s c.args.millis) c.args.turns c.args.leave link_told.coming (g.C.Clock.state c.args.clock.now).reading readings)
           (at-within before w start (begins-at s c.args.node.now n link taken moments link_told is link_is).at),
     )
 
@@ -36,24 +37,25 @@ loop-done-init g c = record {
   going = c.requires.going;
   calm = refl;
   faults = refl;
-  millis = refl;
+  pace = pace-kept c.args.node.now c.args.millis c.most_owed.result c.most_owed.ensures;
   base = refl;
   room = sym c.in-Ok.buf.ok.0 ∙ c.in-Ok.ensures.len;
   closed = refl;
   goes = goes-same c.args.node.now.signer (g.D.Disk.state c.args.disk.now).moments (g.O.Sink.state c.args.out.now).taken _ _ (Ok tt) refl;
-  turned = λ s before o start at sees. turned-first s before c.args.millis c.now-base.result c.args.turns o start _ _ _ _ at sees;
+  turned = λ s before o start at sees. turned-first s before (pace_in c.args.node.now c.args.millis) c.now-base.result c.args.turns o start _ _ _ _ at sees;
 }
 
 pub loop-done-preserved : goal.loop-done-preserved
 loop-done-preserved g c =
     let h = c.loop-done.invariant in
     let done : ℕ = c.loop-done.done in
+    let pace : Pace = pace_in c.args.node.now c.args.millis in
     record {
       writable = c.in_ok-turn.ensures.open;
       going = c.in_ok-turn.ensures.going;
       calm = c.in_ok-turn.ensures.no_disk_fault ∙ h.calm;
       faults = c.in_ok-turn.ensures.faults ∙ h.faults;
-      millis = c.in_ok-turn.ensures.kept.1 ∙ h.millis;
+      pace = c.in_ok-turn.ensures.kept.1 ∙ h.pace;
       base = c.in_ok-turn.ensures.kept.0 ∙ h.base;
       room = length-kept c.loop-done.buf.len room c.turn.new.buf c.loop-done.buf.items c.loop-done.buf.ok.0 (let a = c.turn.auto.buf in let b = c.deref_mut.ensures.len in let d = c.deref_mut.ensures.value in omega (arith, a, b, ap length d)) h.room;
       closed = c.in_ok-turn.ensures.closed ∙ h.closed;
@@ -67,12 +69,12 @@ loop-done-preserved g c =
           let later = (g.C.Clock.state c.turn.new.clock).coming in
           let made : ℕ = c.loop-done.progress.made in
           let made1 : ℕ = c.turn.new.progress.made in
-          let t : Turned s before c.args.millis c.now-base.result c.args.turns done o start w reading readings made = h.turned s before o start at sees in
+          let t : Turned s before pace c.now-base.result c.args.turns done o start w reading readings made = h.turned s before o start at sees in
           let r : ServeState = served s t.acts start in
-          turned-next s before c.args.millis c.now-base.result c.args.turns done o start w w1 reading now readings later made made1 c.loop-done-test.true t
-          (at-pace (λ m b. Stands s before w1 (served s (turn_acts (turn_in m b (done + 1) t.outlook)) r)) c.loop-done.progress.millis c.args.millis c.loop-done.progress.base c.now-base.result h.millis h.base
+          turned-next s before pace c.now-base.result c.args.turns done o start w w1 reading now readings later made made1 c.loop-done-test.true t
+          (at-pace (λ m b. Stands s before w1 (served s (turn_acts (turn_in m b (done + 1) t.outlook)) r)) c.loop-done.progress.pace pace c.loop-done.progress.base c.now-base.result h.pace h.base
           (c.in_ok-turn.ensures.serves s before r t.outlook t.at t.sees))
-          (at-pace (λ m b. Sees (after_turn m b t.outlook) (served s (turn_acts (turn_in m b (done + 1) t.outlook)) r) now later made1) c.loop-done.progress.millis c.args.millis c.loop-done.progress.base c.now-base.result h.millis h.base
+          (at-pace (λ m b. Sees (after_turn m b t.outlook) (served s (turn_acts (turn_in m b (done + 1) t.outlook)) r) now later made1) c.loop-done.progress.pace pace c.loop-done.progress.base c.now-base.result h.pace h.base
           (c.in_ok-turn.ensures.sees s before r t.outlook t.at t.sees));
     }
 
@@ -100,6 +102,8 @@ returns-in_err-turn-clause-serves g c = λ s n link_told readings is link_is com
     let h = c.loop-done.invariant in
     let done : ℕ = c.loop-done.done in
     let base : ℕ = c.now-base.result in
+    let pace : Pace = pace_in c.args.node.now c.args.millis in
+    let paced = pace-is s c.args.node.now n c.args.millis is in
     let last = (g.C.Clock.state c.args.clock.now).reading in
     let taken = (g.O.Sink.state c.args.out.now).taken in
     let moments = (g.D.Disk.state c.args.disk.now).moments in
@@ -112,22 +116,24 @@ returns-in_err-turn-clause-serves g c = λ s n link_told readings is link_is com
     let o : Outlook = first_outlook link_told.coming base readings in
     let w : Standing = standing c.loop-done.node (g.L.Link.state c.loop-done.link).contents (g.O.Sink.state c.loop-done.out).taken (g.D.Disk.state c.loop-done.disk).moments c.loop-done.progress.sent in
     let w1 : Standing = standing c.turn.new.node (g.L.Link.state c.turn.new.link).contents (g.O.Sink.state c.turn.new.out).taken (g.D.Disk.state c.turn.new.disk).moments c.turn.new.progress.sent in
-    let t : Turned s before c.args.millis base c.args.turns done o start w (g.C.Clock.state c.loop-done.clock).reading (g.C.Clock.state c.loop-done.clock).coming c.loop-done.progress.made =
+    let t : Turned s before pace base c.args.turns done o start w (g.C.Clock.state c.loop-done.clock).reading (g.C.Clock.state c.loop-done.clock).coming c.loop-done.progress.made =
     h.turned s before o start (begins-at s c.args.node.now n link taken moments link_told is told) (begins-seeing n link_told (g.C.Clock.state c.now-base.new.self).reading base later readings c.now-base.ensures.kept read.1) in
     let r : ServeState = served s t.acts start in
     let e : ServeFault = c.in_err-turn.field-0.0 in
-    let ended = at-pace (λ m b. Serves s before (turn_acts (turn_in m b (done + 1) t.outlook)) r w1 (Err e)) c.loop-done.progress.millis c.args.millis c.loop-done.progress.base base h.millis h.base
+    let ended = at-pace (λ m b. Serves s before (turn_acts (turn_in m b (done + 1) t.outlook)) r w1 (Err e)) c.loop-done.progress.pace pace c.loop-done.progress.base base h.pace h.base
     (c.in_err-turn.ensures.serves s before r t.outlook t.at t.sees) in
-    let whole = turned-ends s before c.args.millis base c.args.turns done o start w w1 (g.C.Clock.state c.loop-done.clock).reading (g.C.Clock.state c.loop-done.clock).coming c.loop-done.progress.made e c.loop-done-test.true t ended in
-    let turns : List Act = turns_from c.args.millis base c.args.turns 1 o in (
+    let whole = turned-ends s before pace base c.args.turns done o start w w1 (g.C.Clock.state c.loop-done.clock).reading (g.C.Clock.state c.loop-done.clock).coming c.loop-done.progress.made e c.loop-done-test.true t ended in
+    let turns : List Act = turns_from pace base c.args.turns 1 o in (
       c.turn.new.progress.sent,
-      subst (λ x. Serves s before (life_acts c.args.millis c.args.turns c.args.leave link_told.coming last readings) start w1 x) (sym (thrown c.from_residual.result e c.from_residual.ensures.1))
-          (subst (λ acts. Serves s before acts start w1 (Err e)) (life-is c.args.millis c.args.turns c.args.leave last base link_told.coming readings read.0) (life-ends s before turns c.args.leave start w1 e whole)),
+      subst (λ x. Serves s before (life_acts (pace_for s c.args.millis) c.args.turns c.args.leave link_told.coming last readings) start w1 x) (sym (thrown c.from_residual.result e c.from_residual.ensures.1))
+          (subst (λ acts. Serves s before acts start w1 (Err e)) (life-is pace (pace_for s c.args.millis) c.args.turns c.args.leave last base link_told.coming readings paced read.0) (life-ends s before turns c.args.leave start w1 e whole)),
     )
 
 pub returns-clause-serves : goal.returns-clause-serves
 returns-clause-serves g c = λ s n link_told readings is link_is coming_is.
     let base : ℕ = c.now-base.result in
+    let pace : Pace = pace_in c.args.node.now c.args.millis in
+    let paced = pace-is s c.args.node.now n c.args.millis is in
     let last = (g.C.Clock.state c.args.clock.now).reading in
     let taken = (g.O.Sink.state c.args.out.now).taken in
     let moments = (g.D.Disk.state c.args.disk.now).moments in
@@ -142,14 +148,14 @@ returns-clause-serves g c = λ s n link_told readings is link_is coming_is.
     let reading = (g.C.Clock.state c.loop-done.clock).reading in
     let coming = (g.C.Clock.state c.loop-done.clock).coming in
     let made : ℕ = c.loop-done.progress.made in
-    let t : Turned s before c.args.millis base c.args.turns c.loop-done.done o start w reading coming made =
+    let t : Turned s before pace base c.args.turns c.loop-done.done o start w reading coming made =
     c.loop-done.invariant.turned s before o start (begins-at s c.args.node.now n link taken moments link_told is told) (begins-seeing n link_told (g.C.Clock.state c.now-base.new.self).reading base later readings c.now-base.ensures.kept read.1) in
     let all : c.loop-done.done ≡ c.args.turns = omega arith in
-    let last_turn = subst (λ k. Turned s before c.args.millis base c.args.turns k o start w reading coming made) all t in
-    let turns : List Act = turns_from c.args.millis base c.args.turns 1 o in
-    let behind = turned-last s before c.args.millis base c.args.turns o start w reading coming made last_turn in (
+    let last_turn = subst (λ k. Turned s before pace base c.args.turns k o start w reading coming made) all t in
+    let turns : List Act = turns_from pace base c.args.turns 1 o in
+    let behind = turned-last s before pace base c.args.turns o start w reading coming made last_turn in (
       c.loop-done.progress.sent,
-      subst (λ acts. Stands s before w (served s acts start)) (life-is c.args.millis c.args.turns c.args.leave last base link_told.coming readings read.0)
+      subst (λ acts. Stands s before w (served s acts start)) (life-is pace (pace_for s c.args.millis) c.args.turns c.args.leave last base link_told.coming readings paced read.0)
           (life-stays s before turns c.args.leave start w c.if-leave.false behind),
     )
 
@@ -165,6 +171,8 @@ returns-then-leave-clause-spends g c =
 pub returns-then-leave-clause-serves : goal.returns-then-leave-clause-serves
 returns-then-leave-clause-serves g c = λ s n link_told readings is link_is coming_is.
     let base : ℕ = c.now-base.result in
+    let pace : Pace = pace_in c.args.node.now c.args.millis in
+    let paced = pace-is s c.args.node.now n c.args.millis is in
     let last = (g.C.Clock.state c.args.clock.now).reading in
     let taken = (g.O.Sink.state c.args.out.now).taken in
     let moments = (g.D.Disk.state c.args.disk.now).moments in
@@ -179,14 +187,14 @@ returns-then-leave-clause-serves g c = λ s n link_told readings is link_is comi
     let reading = (g.C.Clock.state c.loop-done.clock).reading in
     let coming = (g.C.Clock.state c.loop-done.clock).coming in
     let made : ℕ = c.loop-done.progress.made in
-    let t : Turned s before c.args.millis base c.args.turns c.loop-done.done o start w reading coming made =
+    let t : Turned s before pace base c.args.turns c.loop-done.done o start w reading coming made =
     c.loop-done.invariant.turned s before o start (begins-at s c.args.node.now n link taken moments link_told is told) (begins-seeing n link_told (g.C.Clock.state c.now-base.new.self).reading base later readings c.now-base.ensures.kept read.1) in
     let all : c.loop-done.done ≡ c.args.turns = omega arith in
-    let last_turn = subst (λ k. Turned s before c.args.millis base c.args.turns k o start w reading coming made) all t in
-    let turns : List Act = turns_from c.args.millis base c.args.turns 1 o in
-    let behind = turned-last s before c.args.millis base c.args.turns o start w reading coming made last_turn in
+    let last_turn = subst (λ k. Turned s before pace base c.args.turns k o start w reading coming made) all t in
+    let turns : List Act = turns_from pace base c.args.turns 1 o in
+    let behind = turned-last s before pace base c.args.turns o start w reading coming made last_turn in
     let w1 : Standing = standing c.leave.new.node (g.L.Link.state c.leave.new.link).contents (g.O.Sink.state c.leave.new.out).taken (g.D.Disk.state c.leave.new.disk).moments c.leave.new.sent in (
       c.leave.new.sent,
-      subst (λ acts. Serves s before acts start w1 c.leave.result) (life-is c.args.millis c.args.turns c.args.leave last base link_told.coming readings read.0)
+      subst (λ acts. Serves s before acts start w1 c.leave.result) (life-is pace (pace_for s c.args.millis) c.args.turns c.args.leave last base link_told.coming readings paced read.0)
           (life-leaves s before turns c.args.leave start w1 c.leave.result c.if-leave.true (c.leave.ensures.serves s before (served s turns start) behind)),
     )

@@ -21,9 +21,9 @@ returns-then-contains-clause-builds c = λ s is apart h.
     let correct : List ℕ = c.args.nodes.now in
     let liars : List ℕ = c.args.liars.now in
     let m : ℕ = c.args.member in
-    let world : IsWorld s v.authority.group kinds = is-world v.authority.group kinds correct liars s is c.requires.few c.requires.profile in
-    let node : is_node s m ≡ true = is-node-made v.authority.group kinds correct liars s is m true (sym c.if-contains.true ∙ c.contains.ensures.value) in
-    let honest : is_liar s m ≡ false = is-apart v.authority.group kinds correct liars s is apart m node in
+    let world : IsWorld s v.authority.group kinds = is-world v.authority.group kinds v.authority.heal correct liars s is c.requires.few c.requires.profile in
+    let node : is_node s m ≡ true = is-node-made v.authority.group kinds v.authority.heal correct liars s is m true (sym c.if-contains.true ∙ c.contains.ensures.value) in
+    let honest : is_liar s m ≡ false = is-apart v.authority.group kinds v.authority.heal correct liars s is apart m node in
     both-ok c.add_node.result (AddsNode v c.add_node.new.self c.args.signing.now kinds m) (c.add_node.new.signing ≡ record c.args.signing.now { next = c.args.signing.now.next + 1 }) (Builds s kinds (m + 1) c.add_node.new.signing c.add_node.new.self)
     (λ adds step. builds-node s kinds m c.args.signing.now c.add_node.new.signing v c.add_node.new.self world node honest adds step h) c.add_node.ensures.ok c.add_node.ensures.next
 
@@ -34,9 +34,9 @@ returns-then-contains-2-clause-builds c = λ s is apart h.
     let correct : List ℕ = c.args.nodes.now in
     let liars : List ℕ = c.args.liars.now in
     let m : ℕ = c.args.member in
-    let world : IsWorld s v.authority.group kinds = is-world v.authority.group kinds correct liars s is c.requires.few c.requires.profile in
-    let other : is_node s m ≡ false = is-node-made v.authority.group kinds correct liars s is m false (sym c.if-contains.false ∙ c.contains.ensures.value) in
-    let lies : is_liar s m ≡ true = is-liar-made v.authority.group kinds correct liars s is m true (sym c.if-contains-2.true ∙ c.contains-2.ensures.value) in
+    let world : IsWorld s v.authority.group kinds = is-world v.authority.group kinds v.authority.heal correct liars s is c.requires.few c.requires.profile in
+    let other : is_node s m ≡ false = is-node-made v.authority.group kinds v.authority.heal correct liars s is m false (sym c.if-contains.false ∙ c.contains.ensures.value) in
+    let lies : is_liar s m ≡ true = is-liar-made v.authority.group kinds v.authority.heal correct liars s is m true (sym c.if-contains-2.true ∙ c.contains-2.ensures.value) in
     both-ok c.add_liar.result (AddsLiar v c.add_liar.new.self c.args.signing.now kinds m) (c.add_liar.new.signing ≡ record c.args.signing.now { next = c.args.signing.now.next + 1 }) (Builds s kinds (m + 1) c.add_liar.new.signing c.add_liar.new.self)
     (λ adds step. builds-liar s kinds m c.args.signing.now c.add_liar.new.signing v c.add_liar.new.self world other lies adds step h) c.add_liar.ensures.ok c.add_liar.ensures.next
 
@@ -47,6 +47,6 @@ returns-clause-builds c = λ s is apart h.
     let correct : List ℕ = c.args.nodes.now in
     let liars : List ℕ = c.args.liars.now in
     let m : ℕ = c.args.member in
-    let other : is_node s m ≡ false = is-node-made v.authority.group kinds correct liars s is m false (sym c.if-contains.false ∙ c.contains.ensures.value) in
-    let honest : is_liar s m ≡ false = is-liar-made v.authority.group kinds correct liars s is m false (sym c.if-contains-2.false ∙ c.contains-2.ensures.value) in
+    let other : is_node s m ≡ false = is-node-made v.authority.group kinds v.authority.heal correct liars s is m false (sym c.if-contains.false ∙ c.contains.ensures.value) in
+    let honest : is_liar s m ≡ false = is-liar-made v.authority.group kinds v.authority.heal correct liars s is m false (sym c.if-contains-2.false ∙ c.contains-2.ensures.value) in
     builds-none s kinds m c.args.signing.now v other honest h

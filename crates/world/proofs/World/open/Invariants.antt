@@ -9,4 +9,5 @@ abbrev pub invariant-loop-number : goal.invariant-loop-number
 invariant-loop-number l =
     (keys.Lms l.world.authority.key ≡ public_key l.signing.key)
     × (l.world.authority.group ≡ l.fn.group)
-    × (let kinds = kinds_with l.fn.ots l.fn.tree l.fn.bottom in Builds (setting_for l.fn.group kinds l.fn.nodes l.fn.liars) kinds l.number l.signing l.world)
+    × (l.world.authority.heal ≡ l.fn.heal)
+    × (let kinds = kinds_with l.fn.ots l.fn.tree l.fn.bottom in Builds (setting_for l.fn.group kinds l.fn.heal l.fn.nodes l.fn.liars) kinds l.number l.signing l.world)

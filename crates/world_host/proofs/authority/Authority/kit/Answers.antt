@@ -21,6 +21,7 @@ returns-clause-sound c = λ kinds own place.
       authority = c.self.inside.key;
       certificates = c.in_ok-certificates.certificates;
       nonce_seed = c.nonce_seed.result;
+      heal = c.self.inside.heal;
     }) low place group refl same
     (subst (All (IsCheckedIn c.self.inside.group (keys.Lms c.self.inside.key))) (sym copied) c.self.invariant.0)
     (subst (All IsChecked) (sym copied) c.self.invariant.1)
