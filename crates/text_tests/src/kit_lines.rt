@@ -75,14 +75,20 @@ fn the_own_key_is_made(rt: HostRuntime) -> Result<(), Fail> {
     compare_own(&rt, rt.alloc(), &mut lines)
 }
 
+/// The option that the line is.
+fn heal_of(line: &Line) -> Option<Heal> {
+    match line {
+        Line::Kit(KitLine::Heal(heal)) => Some(*heal),
+        _ => None,
+    }
+}
+
 /// The option is read below the kinds, once.
 fn compare_heal(rt: &impl Abort, alloc: Global, lines: &mut Lines) -> Result<(), Fail> {
     take_head(alloc, lines)?;
     assert_eq!(rt; fault_of(alloc, lines, b"heal 1 1\n"), bad(BadWord::Limit));
-    let Line::Kit(KitLine::Heal(heal)) = lines.line(alloc, b"heal 1000 0\n")? else {
-        panic!(rt; "the option");
-    };
-    assert_eq!(rt; Some(heal), Heal::new(1_000, 0));
+    let line = lines.line(alloc, b"heal 1000 0\n")?;
+    assert_eq!(rt; heal_of(&line), Heal::new(1_000, 0));
     assert_eq!(rt;
         fault_of(alloc, lines, b"heal 1000 0\n"),
         bad(BadWord::Order)
