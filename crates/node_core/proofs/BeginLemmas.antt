@@ -16,7 +16,8 @@ use Rattle.std.specs.Ordering.{nat_cmp}
 use Rattle.validate.specs.Certified.{Certificates, certificate_of as kept_certificate}
 use Rattle.std.specs.FinMap as fin
 use Rattle.std.specs.Option.{option_map}
-use Rattle.node_core.proofs.PlayLemmas.{setting-group, setting-me, own-signed}
+use Rattle.node_core.proofs.PlayLemmas.{setting-group, setting-me}
+use Rattle.node_core.proofs.SigningLemmas.{own-signed}
 use Rattle.node_rules.proofs.OwnNote.{becomes_member, step-same}
 use Rattle.node_rules.specs.Lives.{is_certificate_for}
 use Rattle.node_rules.specs.Replies.{first_mask}

@@ -39,7 +39,7 @@ use Rattle.node_core.specs.Neighbours.{addressees}
 use Rattle.node_core.specs.Playing.{Kept, IsAt, Plays}
 use Rattle.node_core.specs.Spending.{SignsNothing}
 use Rattle.node_core.specs.OnDisks.{Stores, FailsToStore, FailsIn, ComesTo, GivesOn, FollowsDisk, storage, on_disk}
-use Rattle.node_core.proofs.PlayLemmas.{wants-signed}
+use Rattle.node_core.proofs.SigningLemmas.{wants-signed}
 use Rattle.node_core.proofs.DeliverLemmas.{gives-from}
 
 -- ---- a step that asks nothing of the disk

@@ -2,6 +2,7 @@ pub mod TellingLemmas
 pub mod ExtendLemmas
 pub mod DueLemmas
 pub mod PlayLemmas
+pub mod SigningLemmas
 pub mod NotedLemmas
 pub mod SpendLemmas
 pub mod RefusalLemmas

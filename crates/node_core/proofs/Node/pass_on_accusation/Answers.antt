@@ -8,7 +8,8 @@ use Rattle.datagram.specs.Spelling.{datagram_bytes}
 use Rattle.node_core.specs.Signatures.{with_stored}
 use Rattle.node_core.specs.Playing.{Kept, Plays, Grows}
 use Rattle.node_core.specs.contracts.Node.{the_view}
-use Rattle.node_core.proofs.PlayLemmas.{passed-on, kept-plays, grows-trans}
+use Rattle.node_core.proofs.PlayLemmas.{grows-trans}
+use Rattle.node_core.proofs.SigningLemmas.{passed-on, kept-plays}
 use Rattle.node_core.proofs.Node.pass_on_accusation.Goals as goal
 
 pub returns-clause-plays : goal.returns-clause-plays

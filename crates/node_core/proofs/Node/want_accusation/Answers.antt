@@ -7,7 +7,8 @@ use Rattle.records.specs.declared.Body.{Body}
 use Rattle.records.specs.declared.Body.TheVariants as bodies
 use Rattle.node_core.specs.Playing.{Plays, Kept}
 use Rattle.node_core.specs.contracts.Node.{the_view}
-use Rattle.node_core.proofs.PlayLemmas.{signer-at, stopped-at, used_up-at, signed-at, grows-signer, wants-refused, refused-keeps}
+use Rattle.node_core.proofs.PlayLemmas.{grows-signer}
+use Rattle.node_core.proofs.SigningLemmas.{signer-at, stopped-at, used_up-at, signed-at, wants-refused, refused-keeps}
 use Rattle.node_core.proofs.SpendLemmas.{lives-signed, signed-spends, unsigned-spends, spends-none, nothing-same, refused-none}
 use Rattle.node_core.specs.Neighbours.{addressees}
 use Rattle.node_rules.specs.Calls.{wants}
@@ -16,7 +17,7 @@ use Rattle.std.proofs.Common.{◌≡◌, true}
 use Rattle.epoch_store.specs.declared.Stored.{Stored}
 use Rattle.signer.specs.Signing.{after_signing, stored_after}
 use Rattle.signer.specs.Signs.{MakesFrom}
-use Rattle.node_core.proofs.PlayLemmas.{free-below}
+use Rattle.node_core.proofs.SigningLemmas.{free-below}
 use Rattle.node_core.proofs.DiskLemmas.{stores-none, stores-signed, fails-signed, wants-stored}
 use Rattle.node_core.specs.OnDisks.{Stores, FailsToStore}
 use Rattle.node_core.proofs.DueLemmas.{plays-stuck}

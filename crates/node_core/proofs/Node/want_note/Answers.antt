@@ -11,7 +11,8 @@ use Rattle.signer.specs.Signing.{next_note}
 use Rattle.node_core.specs.Signatures.{with_stored}
 use Rattle.node_core.specs.Playing.{Plays, Kept, Grows}
 use Rattle.node_core.specs.contracts.Node.{the_view}
-use Rattle.node_core.proofs.PlayLemmas.{signer-at, stopped-at, used_up-at, signed-at, grows-signer, wants-refused, next-own-is, refused-keeps}
+use Rattle.node_core.proofs.PlayLemmas.{grows-signer}
+use Rattle.node_core.proofs.SigningLemmas.{signer-at, stopped-at, used_up-at, signed-at, wants-refused, next-own-is, refused-keeps}
 use Rattle.node_core.specs.Signatures.{next_own}
 use Rattle.node_core.proofs.SpendLemmas.{lives-signed, signed-spends, unsigned-spends, spends-none, nothing-same, refused-none}
 use Rattle.node_rules.specs.Calls.{wants}
@@ -20,7 +21,7 @@ use Rattle.std.proofs.Common.{true}
 use Rattle.epoch_store.specs.declared.Stored.{Stored}
 use Rattle.signer.specs.Signing.{after_signing, stored_after}
 use Rattle.signer.specs.Signs.{MakesFrom}
-use Rattle.node_core.proofs.PlayLemmas.{free-below}
+use Rattle.node_core.proofs.SigningLemmas.{free-below}
 use Rattle.node_core.proofs.DiskLemmas.{stores-none, stores-signed, fails-signed, wants-stored}
 use Rattle.node_core.specs.OnDisks.{Stores, FailsToStore}
 use Rattle.node_core.proofs.DueLemmas.{plays-stuck}
@@ -31,12 +32,13 @@ use Rattle.records.specs.declared.Record.{Record}
 use Rattle.datagram.specs.declared.Datagram.TheVariants as kinds
 use Rattle.datagram.specs.Spelling.{datagram_bytes}
 use Rattle.node_core.specs.Playing.{with_known}
-use Rattle.node_core.proofs.PlayLemmas.{grows-trans, passed-on}
+use Rattle.node_core.proofs.PlayLemmas.{grows-trans}
+use Rattle.node_core.proofs.SigningLemmas.{passed-on}
 use Rattle.node_core.proofs.SpendLemmas.{spent-then, nothing-trans}
 use Rattle.ff_ids.specs.declared.summary.RecordKey.TheVariants as keys
 use Rattle.node_rules.specs.Calls.{spends}
 use Rattle.node_core.specs.News.{keeps}
-use Rattle.node_core.proofs.PlayLemmas.{signs-fresh}
+use Rattle.node_core.proofs.SigningLemmas.{signs-fresh}
 use Rattle.node_core.proofs.Node.want_note.Goals as goal
 
 pub returns-in-Err-StoreFault-clause-plays : goal.returns-in-Err-StoreFault-clause-plays

@@ -4,7 +4,8 @@ use Rattle.records.specs.declared.Body.{Body}
 use Rattle.records.specs.declared.Body.TheVariants as bodies
 use Rattle.node_core.specs.Playing.{Kept, with_known}
 use Rattle.node_core.specs.Signatures.{with_stored}
-use Rattle.node_core.proofs.PlayLemmas.{grows-adds, grows-trans, own-kept, tells-plays}
+use Rattle.node_core.proofs.PlayLemmas.{grows-adds, grows-trans, tells-plays}
+use Rattle.node_core.proofs.SigningLemmas.{own-kept}
 use Rattle.node_core.proofs.SpendLemmas.{changes-none, event-spent, spent-then}
 use Rattle.node_core.proofs.parts.keep_own.Goals as goal
 

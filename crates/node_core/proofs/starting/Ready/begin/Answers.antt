@@ -13,7 +13,7 @@ use Rattle.node_core.specs.Begins.{kept_by}
 use Rattle.node_core.proofs.TellingLemmas.{front-trans}
 use Rattle.node_core.proofs.BeginLemmas.{started-is, at-first}
 use Rattle.node_core.proofs.DueLemmas.{plays-at}
-use Rattle.node_core.proofs.PlayLemmas.{signs-fresh}
+use Rattle.node_core.proofs.SigningLemmas.{signs-fresh}
 use Rattle.node_core.proofs.SpendLemmas.{spent-then}
 use Rattle.node_core.proofs.starting.Ready.begin.Goals as goal
 
