@@ -3,6 +3,7 @@
 ghost use Rattle.std.specs.Prelude.{◌≡◌, ◌≤◌, ◌+◌, true};
 ghost use Rattle.play.specs.Plays.{Continues, Runs, has_written, io};
 ghost use Rattle.text_trace.specs.Lines.{text_lines};
+ghost use Rattle.text_trace.specs.Long.{most_lines};
 ghost use Rattle.text_trace.specs.Trace.{Owing};
 ghost use Rattle.world_rules.specs.declared.cause.Cause.{Cause};
 ghost use Rattle.world_replay.specs.Causes.{IsJudged};
@@ -97,7 +98,7 @@ fn play_in_form<S: Source, O: Sink>(
     requires source { (S.state input.old).is_open ≡ true }
     requires sink { (O.state out.old).is_open ≡ true }
     requires owing { Owing Cause (OwedFrom player.old.form) }
-    requires few { first + left_from player.old.form ≤ text_lines + 1 }
+    requires few { first + left_from player.old.form ≤ most_lines + 1 }
     ensures sink { (O.state out.new).is_open ≡ has_written result }
     ensures continues { Continues Cause IsJudged (OwedFrom player.old.form) first
         (left_from player.old.form)

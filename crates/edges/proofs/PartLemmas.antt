@@ -11,8 +11,10 @@ use Rattle.std.specs.declared.io.buffered.BufReader.{BufReader}
 use Rattle.std.proofs.KnownBytes.{Consumes-trans}
 use Rattle.memchr.specs.Find.{Nowhere, NoneBefore, Passes, is_byte}
 use Rattle.text_trace.specs.Lines.{has_no_feed, seen_bytes, IsFed}
+use Rattle.text_trace.proofs.LongLemmas.{ended-fed}
+use Rattle.edges.specs.declared.line_part.Part.{Part}
 use Rattle.edges.specs.declared.line_part.Part.TheVariants as part
-use Rattle.edges.specs.Parts.{Gained}
+use Rattle.edges.specs.Parts.{Gained, IsPart, PassesAs}
 
 -- bytes in front of the first place where a feed stands have none
 clear-front : (hay : List ℕ) (n : ℕ) → n ≤ length hay → Nowhere (Passes (is_byte 10) hay) 0 n → has_no_feed (take n hay) ≡ true
@@ -72,3 +74,8 @@ last-fed first before after line longer clear front g short =
       },
       subst (Consumes first after) (sym g.grown) (Consumes-trans first before after line g.bytes front g.read),
     )
+
+-- a part of a line was passed over
+pub passes-as : (p : Part) (bytes : List ℕ) (before after : Option (List ℕ)) → IsPart p bytes → Consumes before after bytes → PassesAs p before after
+passes-as part.Last bytes before after fed took = record { bytes = bytes; front = took; ended = ended-fed bytes fed }
+passes-as part.Front bytes before after clear took = record { bytes = bytes; front = took; clear = clear }

@@ -2,7 +2,7 @@
 use Rattle.std.specs.Prelude.{◌≡◌, ℕ, ◌<◌, Bool, true, false, List, [], ◌++◌, length, Option, None, Some, Result, Ok, Err}
 use Rattle.std.specs.Io.KnownBytes.{Consumes}
 use Rattle.ports.specs.Contents.{IsUsedUp}
-use Rattle.ports.specs.LineReading.{ReadsWhole}
+use Rattle.ports.specs.LineReading.{PassesLine, PassesPart, ReadsWhole}
 use Rattle.ports.specs.declared.Ending.TheVariants as ending
 use Rattle.text_trace.specs.Lines.{has_no_feed, IsFed}
 use Rattle.edges.specs.declared.line_part.Part.{Part}
@@ -40,3 +40,13 @@ took_part (Err _) = false
 abbrev pub TakesLine : Option (List ℕ) → Option (List ℕ) → List ℕ → Bool → Type 0
 TakesLine before after line true = ReadsWhole before after line ending.Feed
 TakesLine before after line false = line ≡ []
+
+-- Such a part was passed over.
+abbrev pub PassesAs : Part → Option (List ℕ) → Option (List ℕ) → Type 0
+PassesAs part.Last before after = PassesLine before after
+PassesAs part.Front before after = PassesPart before after
+
+abbrev pub PassesOver : {E : Type 0} → Option (List ℕ) → Option (List ℕ) → Result (Option Part) E → Type 0
+PassesOver before after (Ok (Some p)) = PassesAs p before after
+PassesOver before after (Ok None) = PassesPart before after × IsUsedUp after
+PassesOver before after (Err _) = PassesPart before after

@@ -13,10 +13,10 @@ ghost use Rattle.std.specs.Io.{ReadsAtMost, WritesAtMost};
 ghost use Rattle.std.specs.Io.KnownBytes.{ReadConsumes, WriteAppends};
 ghost use Rattle.std.specs.Io.Buffered.{reader_remaining};
 ghost use Rattle.ports.specs.Count.{counted, next_count};
-ghost use Rattle.ports.specs.LineReading.{ReadsLine, is_going};
+ghost use Rattle.ports.specs.LineReading.{Passes, ReadsLine, has_passed, is_going};
 ghost use Rattle.ports.specs.Writing.{Gives, TookAtMost, TookSome, has_taken, write_failed};
 ghost use Rattle.text_trace.specs.Lines.{seen_bytes};
-ghost use Rattle.edges.specs.Parts.{TakesPart, took_part};
+ghost use Rattle.edges.specs.Parts.{PassesOver, TakesPart, took_part};
 
 mod absent;
 mod file_disk;
@@ -28,7 +28,7 @@ mod udp_link;
 pub use absent::{Absent, NoClock};
 use fields::NoMemory;
 pub use file_disk::FileDisk;
-use line_part::{Part, take_buffered, take_line};
+use line_part::{Part, pass_buffered, take_buffered, take_line};
 use ports::{Ending, Failed, Given, Sink, Source, Taken};
 pub use real_clock::RealClock;
 use std::alloc::Global;
@@ -170,7 +170,7 @@ impl<R: Read + Drop> StdSource<R> {
         requires open { self.old.is_open ≡ true }
         requires empty { line.old.items ≡ [] }
         requires room { seen_bytes ≤ vec_capacity line.old }
-        ensures room { seen_bytes ≤ vec_capacity line.new }
+        ensures room { vec_capacity line.old ≤ vec_capacity line.new }
         ensures going { self.new.is_open ≡ is_going result }
         ensures faults { self.new.faults ≡ counted (is_err result) self.old.faults }
         ensures reads { ReadsLine (reader_remaining R.remaining self.old.reader)
@@ -185,6 +185,43 @@ impl<R: Read + Drop> StdSource<R> {
             }
         }
         Ok(Ending::Limit)
+    }
+
+    /// Passes over a byte, through the buffer. At the end there is none.
+    fn pass_byte(&mut self) -> Result<Option<Part>, Failed>
+        requires open { self.old.is_open ≡ true }
+        ensures going { self.new.is_open ≡ took_part result }
+        ensures faults { self.new.faults ≡ counted (is_err result) self.old.faults }
+        ensures passes { PassesOver (reader_remaining R.remaining self.old.reader)
+            (reader_remaining R.remaining self.new.reader) result }
+    {
+        let mut byte = [0u8; 1];
+        match self.read(&mut byte) {
+            Taken::Got(_) => {
+                if byte[0] == b'\n' {
+                    Ok(Some(Part::Last))
+                } else {
+                    Ok(Some(Part::Front))
+                }
+            }
+            Taken::End => Ok(None),
+            Taken::Failed => Err(Failed),
+        }
+    }
+
+    /// Passes over a part of a line: what the buffer has of it, or where it is empty a byte.
+    fn pass_part(&mut self) -> Result<Option<Part>, Failed>
+        requires open { self.old.is_open ≡ true }
+        ensures going { self.new.is_open ≡ took_part result }
+        ensures faults { self.new.faults ≡ counted (is_err result) self.old.faults }
+        ensures passes { PassesOver (reader_remaining R.remaining self.old.reader)
+            (reader_remaining R.remaining self.new.reader) result }
+    {
+        if self.reader.buffer().is_empty() {
+            self.pass_byte()
+        } else {
+            Ok(Some(pass_buffered(&mut self.reader)))
+        }
     }
 }
 
@@ -214,6 +251,20 @@ impl<R: Read + Drop> Source for StdSource<R> {
         } else {
             self.read_parts(line)
         }
+    }
+
+    /// In parts, and of a rest that comes to no end so many that it counts as a failed read.
+    fn pass_line(&mut self) -> Result<bool, Failed> {
+        'parts: for _ in 0..u64::MAX {
+            match self.pass_part() {
+                Ok(Some(Part::Last)) => return Ok(true),
+                Ok(Some(Part::Front)) => {}
+                Ok(None) => return Ok(false),
+                Err(Failed) => return Err(Failed),
+            }
+        }
+        self.fail();
+        Err(Failed)
     }
 }
 

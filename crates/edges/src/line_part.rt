@@ -3,7 +3,7 @@
 ghost use Rattle.std.specs.Prelude.{◌≡◌, ◌+◌, ◌<◌, ◌≤◌, false, [], length, take, vec_len, vec_capacity, IfSome};
 ghost use Rattle.std.specs.Io.Buffered.{reader_buffer, reader_remaining};
 ghost use Rattle.text_trace.specs.Lines.{seen_bytes, IsFed};
-ghost use Rattle.edges.specs.Parts.{Gained, IsPart, TakesLine};
+ghost use Rattle.edges.specs.Parts.{Gained, IsPart, PassesAs, TakesLine};
 
 use memchr::memchr;
 use std::io::{BufRead, BufReader, Read};
@@ -59,6 +59,18 @@ pub(crate) fn take_buffered<R: Read>(
     part
 }
 
+/// Passes over the part of a line that the buffer has: none of the bytes behind a line feed.
+pub(crate) fn pass_buffered<R: Read>(reader: &mut BufReader<R>) -> Part
+    requires some { 0 < length (reader_buffer reader.old) }
+    ensures passes { PassesAs result (reader_remaining R.remaining reader.old)
+        (reader_remaining R.remaining reader.new) }
+{
+    let bytes = reader.buffer();
+    let (count, part) = part_of(bytes, SEEN_BYTES);
+    reader.consume(count);
+    part
+}
+
 /// How many bytes the line has that stands in front, where its line feed is among those that are seen of it.
 fn line_in(bytes: &[u8]) -> Option<usize>
     ensures within { IfSome result (λ n. n ≤ length bytes.now) }
@@ -76,7 +88,7 @@ fn line_in(bytes: &[u8]) -> Option<usize>
 pub(crate) fn take_line<R: Read>(reader: &mut BufReader<R>, line: &mut Vec<u8>) -> bool
     requires empty { line.old.items ≡ [] }
     requires reserved { seen_bytes ≤ vec_capacity line.old }
-    ensures reserved { seen_bytes ≤ vec_capacity line.new }
+    ensures reserved { vec_capacity line.old ≤ vec_capacity line.new }
     ensures takes { TakesLine (reader_remaining R.remaining reader.old)
         (reader_remaining R.remaining reader.new) line.new.items result }
     ensures same { result ≡ false → reader.new ≡ reader.old }

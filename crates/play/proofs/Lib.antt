@@ -1,3 +1,4 @@
+pub mod TakingLemmas
 pub mod TurnLemmas
 pub mod JoinLemmas
 pub mod RunLemmas

@@ -1,3 +1,5 @@
 pub mod Answers
+pub mod Taking
+pub mod PlaysBy
 pub mod Plays
 pub mod Named

@@ -1,194 +1,57 @@
--- How a run over a text went: what it took, what it wrote, and why it stopped.
-use Rattle.std.specs.Prelude.{◌≡◌, ℕ, ◌+◌, ◌<◌, ◌≤◌, ◌⊎◌, true, List, [], ◌∷◌, ◌++◌, length, take, Option, Some, None, Bool, false, Result, Ok, Err}
-use Rattle.std.specs.Io.KnownBytes.{Appends, Consumes}
-use Rattle.ports.specs.Contents.{IsUsedUp}
-use Rattle.ports.specs.Count.{next_count}
-use Rattle.ports.specs.Outside.{OfSink, OfSource}
-use Rattle.text_trace.specs.Lines.{has_no_feed, line_bytes, AreWhole, IsCut, IsFed}
-use Rattle.text_trace.specs.Trace.{Continuation, Steps, Writes, Ends, Refuses, Admits}
-use Rattle.ports.specs.LineReading.{IsRest}
+-- How a run over a text went in which long lines are cut, which no script takes.
+use Rattle.std.specs.Prelude.{ℕ, List, Option, Bool, Result}
+use Rattle.text_trace.specs.Trace.{Continuation}
+use Rattle.play.specs.declared.long_lines.LongLines.TheVariants.{Cut}
 use Rattle.play.specs.declared.stop.Stop.{Stop}
-use Rattle.play.specs.declared.stop.Stop.TheVariants as stop
+use Rattle.play.specs.PlaysBy.{AdvancedBy, ConsumedBy, ContinuesBy, FinishedBy, FollowsBy, IsAdmittedBy, LinesBy, RefusedBy, RunsBy, StarvedBy, StopsBy, StopsRunBy, TurnsBy, UnreadBy, UnwrittenBy}
+use Rattle.play.specs.Taking.{IsLastBy}
+pub use Rattle.play.specs.PlaysBy.{IoState, Unfailed, has_written, io}
+pub use Rattle.play.specs.Taking.{IsUnended, bytes_of}
 
--- What stands before or after a run: the bytes left in the source and those that the sink took, where they are modelled,
--- and the counts of faults of both.
-pub record IoState : Type 0 where
-  pub left : Option (List ℕ)
-  pub taken : Option (List ℕ)
-  pub read_faults : ℕ
-  pub write_faults : ℕ
+abbrev pub Lines : ℕ → List (List ℕ) → List ℕ → Type 0
+Lines room lines bytes = LinesBy Cut room lines bytes
 
-abbrev pub io : OfSource → OfSink → IoState
-io source sink = record { left = source.left; taken = sink.taken; read_faults = source.faults; write_faults = sink.faults }
+abbrev pub Advanced : (C : Type 0) → (Continuation C → Type 0) → (Continuation C → Type 0) → ℕ → ℕ → ℕ → ℕ → IoState → IoState → Type 0
+Advanced C A B first next room later was now = AdvancedBy Cut C A B first next room later was now
 
--- Neither side failed.
-pub record Unfailed (was now : IoState) : Type 0 where
-  pub reads : now.read_faults ≡ was.read_faults
-  pub writes : now.write_faults ≡ was.write_faults
+abbrev pub ConsumedLines : (List (List ℕ) → Type 0) → ℕ → ℕ → Option (List ℕ) → Option (List ℕ) → Type 0
+ConsumedLines Reaches room later before after = ConsumedBy Cut Reaches room later before after
 
--- The bytes are these whole lines, and so many could come.
-pub record Lines (room : ℕ) (lines : List (List ℕ)) (bytes : List ℕ) : Type 0 where
-  pub whole : AreWhole lines bytes
-  pub few : length lines ≤ room
+abbrev pub Finished : (C : Type 0) → (Continuation C → Type 0) → ℕ → IoState → IoState → Type 0
+Finished C A room was now = FinishedBy Cut C A room was now
 
--- Lines were taken, and their trace was written. The first has the one number, and the line behind them the other; so
--- many could come before, and so many after.
-pub record Advanced (C : Type 0) (A B : Continuation C → Type 0) (first next room later : ℕ) (was now : IoState) : Type 0 where
-  pub lines : List (List ℕ)
-  pub bytes : List ℕ
-  pub text : List ℕ
-  pub whole : AreWhole lines bytes
-  pub few : later + length lines ≤ room
-  pub number : next ≡ first + length lines
-  pub read : Consumes was.left now.left bytes
-  pub wrote : Appends was.taken now.taken text
-  pub steps : Steps C A B lines text
-  pub unfailed : Unfailed was now
-
--- Lines were taken of which this holds; so many could come before, and so many after.
-pub record ConsumedLines (Reaches : List (List ℕ) → Type 0) (room later : ℕ) (before after : Option (List ℕ)) : Type 0 where
-  pub lines : List (List ℕ)
-  pub bytes : List ℕ
-  pub whole : AreWhole lines bytes
-  pub few : later + length lines ≤ room
-  pub read : Consumes before after bytes
-  pub reaches : Reaches lines
-
--- The whole text was taken, and its trace was written.
-pub record Finished (C : Type 0) (A : Continuation C → Type 0) (room : ℕ) (was now : IoState) : Type 0 where
-  pub lines : List (List ℕ)
-  pub bytes : List ℕ
-  pub text : List ℕ
-  pub taken : Lines room lines bytes
-  pub read : Consumes was.left now.left bytes
-  pub used_up : IsUsedUp now.left
-  pub wrote : Appends was.taken now.taken text
-  pub ends : Ends C A lines text
-  pub unfailed : Unfailed was now
-
--- The bytes of the line behind whole lines, if there is one.
-abbrev pub bytes_of : Option (List ℕ) → List ℕ
-bytes_of None = []
-bytes_of (Some line) = line
-
--- Some bytes without a line feed were all that was left of the text.
-pub record IsUnended (line : List ℕ) (left : Option (List ℕ)) : Type 0 where
-  pub some : 0 < length line
-  pub rest : IsRest line left
-
--- The line behind whole lines: with its line feed, or as much as is seen of a longer line, or what was left of the
--- text; with none, the text is at its end.
 abbrev pub IsLast : Option (List ℕ) → Option (List ℕ) → Type 0
-IsLast None left = IsUsedUp left
-IsLast (Some line) left = IsFed line ⊎ (IsCut line ⊎ IsUnended line left)
+IsLast last left = IsLastBy Cut last left
 
--- The line of this number was refused, or the end: whole lines and that line were taken, none of the lines before it is
--- refused, and all of the trace before it was written.
-pub record Refused (C : Type 0) (A : Continuation C → Type 0) (room first number : ℕ) (cause : C) (was now : IoState) : Type 0 where
-  pub lines : List (List ℕ)
-  pub bytes : List ℕ
-  pub last : Option (List ℕ)
-  pub text : List ℕ
-  pub taken : Lines room lines bytes
-  pub counted : number ≡ first + length lines
-  pub read : Consumes was.left now.left (bytes ++ bytes_of last)
-  pub stands : IsLast last now.left
-  pub wrote : Appends was.taken now.taken text
-  pub writes : Writes C A lines text
-  pub refuses : Refuses C A lines last text cause
-  pub unfailed : Unfailed was now
+abbrev pub Refused : (C : Type 0) → (Continuation C → Type 0) → ℕ → ℕ → ℕ → C → IoState → IoState → Type 0
+Refused C A room first number cause was now = RefusedBy Cut C A room first number cause was now
 
--- A read failed: whole lines were taken, and then a part of a line; the trace of the whole lines was written, and
--- nothing else.
-pub record Unread (C : Type 0) (A : Continuation C → Type 0) (room : ℕ) (was now : IoState) : Type 0 where
-  pub lines : List (List ℕ)
-  pub bytes : List ℕ
-  pub part : List ℕ
-  pub text : List ℕ
-  pub taken : Lines room lines bytes
-  pub read : Consumes was.left now.left (bytes ++ part)
-  pub clear : has_no_feed part ≡ true
-  pub short : length part ≤ line_bytes
-  pub wrote : Appends was.taken now.taken text
-  pub writes : Writes C A lines text
-  pub failed : now.read_faults ≡ next_count was.read_faults
-  pub kept : now.write_faults ≡ was.write_faults
+abbrev pub Unread : (C : Type 0) → (Continuation C → Type 0) → ℕ → IoState → IoState → Type 0
+Unread C A room was now = UnreadBy Cut C A room was now
 
--- The text is the trace of these lines and the next one, or with none of the whole text.
 abbrev pub Follows : (C : Type 0) → (Continuation C → Type 0) → List (List ℕ) → Option (List ℕ) → List ℕ → Type 0
-Follows C A lines (Some line) text = IsFed line × Writes C A (lines ++ line ∷ []) text
-Follows C A lines None text = Ends C A lines text
+Follows C A lines last text = FollowsBy Cut C A lines last text
 
--- A write failed: the trace of whole lines was written, and then a front of that of the next line or the end.
-pub record Unwritten (C : Type 0) (A : Continuation C → Type 0) (room : ℕ) (was now : IoState) : Type 0 where
-  pub lines : List (List ℕ)
-  pub bytes : List ℕ
-  pub last : Option (List ℕ)
-  pub text : List ℕ
-  pub more : List ℕ
-  pub count : ℕ
-  pub taken : Lines room lines bytes
-  pub read : Consumes was.left now.left (bytes ++ bytes_of last)
-  pub stands : IsLast last now.left
-  pub writes : Writes C A lines text
-  pub follows : Follows C A lines last (text ++ more)
-  pub short : count < length more
-  pub wrote : Appends was.taken now.taken (text ++ take count more)
-  pub failed : now.write_faults ≡ next_count was.write_faults
-  pub kept : now.read_faults ≡ was.read_faults
+abbrev pub Unwritten : (C : Type 0) → (Continuation C → Type 0) → ℕ → IoState → IoState → Type 0
+Unwritten C A room was now = UnwrittenBy Cut C A room was now
 
--- The line behind whole lines has its line feed, and isn't refused for a cause that P holds of; with none, the text is at its
--- end, and that isn't refused.
 abbrev pub IsAdmitted : (C : Type 0) → (C → Type 0) → (Continuation C → Type 0) → List (List ℕ) → Option (List ℕ) → Option (List ℕ) → Type 0
-IsAdmitted C P A lines (Some line) left = IsFed line × Admits C P A lines (Some line)
-IsAdmitted C P A lines None left = IsUsedUp left × Admits C P A lines None
+IsAdmitted C P A lines last left = IsAdmittedBy Cut C P A lines last left
 
--- Memory was refused, for a line or an end that isn't refused for a cause that P holds of: whole lines and then that line were taken; the trace of
--- the lines before it was written.
-pub record Starved (C : Type 0) (P : C → Type 0) (A : Continuation C → Type 0) (room : ℕ) (was now : IoState) : Type 0 where
-  pub lines : List (List ℕ)
-  pub bytes : List ℕ
-  pub last : Option (List ℕ)
-  pub text : List ℕ
-  pub taken : Lines room lines bytes
-  pub read : Consumes was.left now.left (bytes ++ bytes_of last)
-  pub admitted : IsAdmitted C P A lines last now.left
-  pub wrote : Appends was.taken now.taken text
-  pub writes : Writes C A lines text
-  pub unfailed : Unfailed was now
+abbrev pub Starved : (C : Type 0) → (C → Type 0) → (Continuation C → Type 0) → ℕ → IoState → IoState → Type 0
+Starved C P A room was now = StarvedBy Cut C P A room was now
 
--- How it stopped, by the cause, where the first line had this number.
 abbrev pub Stops : (C : Type 0) → (C → Type 0) → (Continuation C → Type 0) → ℕ → ℕ → IoState → IoState → Stop C → Type 0
-Stops C P A first room was now (stop.Refused line cause) = Refused C A room first line cause was now
-Stops C P A first room was now stop.ReadFault = Unread C A room was now
-Stops C P A first room was now stop.WriteFault = Unwritten C A room was now
-Stops C P A first room was now stop.OutOfMemory = Starved C P A room was now
+Stops C P A first room was now s = StopsBy Cut C P A first room was now s
 
--- How a run went on that owed what A says and had so many lines to come, the first of this number, by its answer.
 abbrev pub Continues : (C : Type 0) → (C → Type 0) → (Continuation C → Type 0) → ℕ → ℕ → IoState → IoState → Result (Unit {0}) (Stop C) → Type 0
-Continues C P A first room was now (Ok _) = Finished C A room was now
-Continues C P A first room was now (Err s) = Stops C P A first room was now s
+Continues C P A first room was now result = ContinuesBy Cut C P A first room was now result
 
--- How a whole run stopped, which may be refused memory before it takes or writes anything.
 abbrev pub StopsRun : (C : Type 0) → (C → Type 0) → (Continuation C → Type 0) → ℕ → IoState → IoState → Stop C → Type 0
-StopsRun C P A room was now stop.OutOfMemory = (now ≡ was) ⊎ Starved C P A room was now
-StopsRun C P A room was now s = Stops C P A 1 room was now s
+StopsRun C P A room was now s = StopsRunBy Cut C P A room was now s
 
--- How a run over a text went that owes what A says, where so many lines could come, by its answer.
 abbrev pub Runs : (C : Type 0) → (C → Type 0) → (Continuation C → Type 0) → ℕ → IoState → IoState → Result (Unit {0}) (Stop C) → Type 0
-Runs C P A room was now (Ok _) = Finished C A room was now
-Runs C P A room was now (Err s) = StopsRun C P A room was now s
+Runs C P A room was now result = RunsBy Cut C P A room was now result
 
--- How one turn went: behind a line that was taken the run goes on, and owes what B says.
 abbrev pub Turns : (C : Type 0) → (C → Type 0) → (Continuation C → Type 0) → (Continuation C → Type 0) → ℕ → ℕ → ℕ → IoState → IoState → Result Bool (Stop C) → Type 0
-Turns C P A B first room later was now (Ok true) = Advanced C A B first (first + 1) room later was now
-Turns C P A B first room later was now (Ok false) = Finished C A room was now
-Turns C P A B first room later was now (Err s) = Stops C P A first room was now s
-
--- No write failed, so that the sink may be written to.
-abbrev pub has_written : {T C : Type 0} → Result T (Stop C) → Bool
-has_written (Ok _) = true
-has_written (Err (stop.Refused line cause)) = true
-has_written (Err stop.ReadFault) = true
-has_written (Err stop.WriteFault) = false
-has_written (Err stop.OutOfMemory) = true
+Turns C P A B first room later was now result = TurnsBy Cut C P A B first room later was now result

@@ -3,11 +3,13 @@
 #![tactic(auto)]
 
 mod buffers;
+mod long_lines;
 mod player;
 mod script;
 mod stop;
 
 pub use buffers::Buffers;
-pub use player::{play, play_line, play_on};
+pub use long_lines::LongLines;
+pub use player::{play, play_line, play_on, play_past};
 pub use script::{Refusal, Script};
 pub use stop::Stop;

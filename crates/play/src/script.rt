@@ -36,8 +36,8 @@ pub trait Script {
 
     /// Takes a line, and puts what is written for it into the text, which is empty. The line has its line feed;
     /// or the input ends inside it, and it has some bytes; or it is the first 65,601 bytes of a line that has more
-    /// than 65,600 before its line feed. Only a line with its line feed is taken. Memory is refused for no line that
-    /// is refused for a judged cause.
+    /// than 65,600 before its line feed, behind which `play_past` puts that line feed. Only a line with its line feed is
+    /// taken. Memory is refused for no line that is refused for a judged cause.
     fn line(
         &mut self,
         alloc: Global,

@@ -1,4 +1,5 @@
 pub mod Contents
+pub mod PassLemmas
 pub mod Counts
 pub mod MomentLemmas
 pub mod ByteLemmas

@@ -1,9 +1,10 @@
--- What reading a line leaves.
+-- What reading a line leaves, and what passing over the rest of one does.
 use Rattle.std.specs.Prelude.{◌≡◌, ℕ, ◌≤◌, Bool, true, false, List, length, Option, Result, Ok, Err}
 use Rattle.std.specs.Io.KnownBytes.{Consumes}
 use Rattle.ports.specs.Contents.{IsUsedUp}
 use Rattle.ports.specs.declared.Failed.{Failed}
 use Rattle.text_trace.specs.Lines.{has_no_feed, line_bytes, IsCut, IsFed}
+use Rattle.text_trace.specs.Long.{IsEnded}
 use Rattle.ports.specs.declared.Ending.{Ending}
 use Rattle.ports.specs.declared.Ending.TheVariants as ending
 
@@ -39,3 +40,26 @@ is_going (Ok ending.Feed) = true
 is_going (Ok ending.Limit) = true
 is_going (Ok ending.Input) = false
 is_going (Err _) = false
+
+-- Bytes that end with their only line feed were passed over.
+pub record PassesLine (before after : Option (List ℕ)) : Type 0 where
+  pub bytes : List ℕ
+  pub front : Consumes before after bytes
+  pub ended : IsEnded bytes
+
+-- Bytes without a line feed were passed over.
+pub record PassesPart (before after : Option (List ℕ)) : Type 0 where
+  pub bytes : List ℕ
+  pub front : Consumes before after bytes
+  pub clear : has_no_feed bytes ≡ true
+
+-- What was passed over, by the answer whether a line feed came; where none did, all that was left.
+abbrev pub Passes : Option (List ℕ) → Option (List ℕ) → Result Bool Failed → Type 0
+Passes before after (Ok true) = PassesLine before after
+Passes before after (Ok false) = PassesPart before after × IsUsedUp after
+Passes before after (Err _) = PassesPart before after
+
+-- The source may be read again.
+abbrev pub has_passed : Result Bool Failed → Bool
+has_passed (Ok fed) = fed
+has_passed (Err _) = false

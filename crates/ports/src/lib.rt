@@ -13,7 +13,7 @@ ghost use Rattle.ports.specs.Count.{counted};
 ghost use Rattle.ports.specs.Contents.{Wrote};
 ghost use Rattle.ports.specs.Outside.{OfSink, OfSource};
 ghost use Rattle.ports.specs.Reading.{has_got, read_failed, GotAtMost, GotSome, Reads, EndsUsedUp};
-ghost use Rattle.ports.specs.LineReading.{ReadsLine, is_going};
+ghost use Rattle.ports.specs.LineReading.{Passes, ReadsLine, has_passed, is_going};
 ghost use Rattle.text_trace.specs.Lines.{seen_bytes};
 ghost use Rattle.ports.specs.Writing.{has_taken, write_failed, TookAtMost, TookSome, Gives};
 
@@ -120,7 +120,7 @@ pub trait Source {
     fn read_line(&mut self, line: &mut Vec<u8>) -> Result<Ending, Failed>
         requires open { (state self.old).is_open ≡ true }
         requires room { seen_bytes ≤ vec_capacity line.old }
-        ensures room { seen_bytes ≤ vec_capacity line.new }
+        ensures room { vec_capacity line.old ≤ vec_capacity line.new }
         ensures going { (state self.new).is_open ≡ is_going result }
         ensures faults { (state self.new).faults ≡ counted (is_err result) (state self.old).faults }
         ensures reads { ReadsLine (state self.old).left (state self.new).left line.new.items result }
@@ -141,6 +141,14 @@ pub trait Source {
         }
         Ok(Ending::Limit)
     }
+
+    /// Passes over the rest of a line: the bytes up to and including the next line feed, or where none comes all that are
+    /// left. Says whether a line feed came. Takes no memory, and nothing behind these bytes.
+    fn pass_line(&mut self) -> Result<bool, Failed>
+        requires open { (state self.old).is_open ≡ true }
+        ensures going { (state self.new).is_open ≡ has_passed result }
+        ensures faults { (state self.new).faults ≡ counted (is_err result) (state self.old).faults }
+        ensures passes { Passes (state self.old).left (state self.new).left result };
 }
 
 /// Where bytes go to.

@@ -5,7 +5,7 @@ ghost use Rattle.ports.specs.Reading.{has_got, read_failed, GotAtMost, GotSome, 
 ghost use Rattle.ports.specs.Writing.{has_taken, write_failed, TookAtMost, TookSome, Gives};
 ghost use Rattle.ports.specs.Memory.{is_failing, SourceState, read_answer, after_read, filled, SinkState, write_answer, after_write};
 
-use crate::{Given, Sink, Source, Taken};
+use crate::{Failed, Given, Sink, Source, Taken};
 use fields::NoMemory;
 use std::alloc::Global;
 use std::marker::Model;
@@ -160,6 +160,22 @@ impl Source for MemorySource {
         buf[..count].copy_from_slice(&self.bytes[self.place..self.place + count]);
         self.place += count;
         Taken::Got(count)
+    }
+
+    /// A byte at a time.
+    fn pass_line(&mut self) -> Result<bool, Failed> {
+        'bytes: loop {
+            let mut byte = [0u8; 1];
+            match self.read(&mut byte) {
+                Taken::Got(_) => {
+                    if byte[0] == b'\n' {
+                        return Ok(true);
+                    }
+                }
+                Taken::End => return Ok(false),
+                Taken::Failed => return Err(Failed),
+            }
+        }
     }
 }
 

@@ -1,7 +1,10 @@
-//! The source and the sink over bytes in memory, and the others over a file, two sockets and the clock of this machine.
+//! The source over bytes in memory and a file, the sink over bytes in memory, and the others over a file, two sockets and
+//! the clock of this machine.
+
+ghost use Rattle.std.specs.Prelude.{◌≡◌, true};
 
 use edges::{FileDisk, RealClock, StdSink, StdSource, UdpLink};
-use ports::{Clock, Disk, Given, Link, Opened, Received, Sent, Sink, Source, Taken};
+use ports::{Clock, Disk, Ending, Given, Link, Opened, Received, Sent, Sink, Source, Taken};
 use std::alloc::Global;
 use std::fs::Files;
 use std::io::{ErrorKind, Read, Write};
@@ -22,6 +25,46 @@ fn source_gives_what_its_reader_gives(rt: HostRuntime) -> Result<(), Fail> {
     };
     assert_eq!(rt; buf, *b"abcde---");
     assert_eq!(rt; source.read(&mut buf), Taken::End);
+    Ok(())
+}
+
+/// The rest of a line is passed over, however long it is, and nothing behind it.
+fn passes_rests<S: Source>(alloc: Global, source: &mut S) -> Result<(), Fail>
+    requires { (S.state source.old).is_open ≡ true }
+{
+    let mut line = Vec::with_capacity(alloc, 65_601)?;
+    let Ok(Ending::Limit) = source.read_line(&mut line) else {
+        return Err("no long line".into());
+    };
+    let Ok(true) = source.pass_line() else {
+        return Err("no rest".into());
+    };
+    let Ok(Ending::Feed) = source.read_line(&mut line) else {
+        return Err("no line behind it".into());
+    };
+    if line.as_slice() != b"end\n".as_slice() {
+        return Err("another line behind it".into());
+    }
+    let Ok(true) = source.pass_line() else {
+        return Err("no empty line".into());
+    };
+    let Ok(false) = source.pass_line() else {
+        return Err("no end".into());
+    };
+    Ok(())
+}
+
+#[test]
+fn source_passes_over_the_rest_of_a_line(rt: HostRuntime) -> Result<(), Fail> {
+    make_folder(&rt, "edges_long")?;
+    let mut text = vec![in rt.alloc(); b'v'; 1_000_000]?;
+    text.extend_from_slice(b"\nend\n\n")?;
+    text.resize(1_200_000, b'v')?;
+    fs::write(&rt, "edges_long/a.txt", text.as_slice())?;
+    let file = fs::File::open(&rt, "edges_long/a.txt")?;
+    let mut source = StdSource::new(rt.alloc(), file).or(Err("no memory"))?;
+    passes_rests(rt.alloc(), &mut source)?;
+    fs::remove_dir_all(&rt, "edges_long")?;
     Ok(())
 }
 

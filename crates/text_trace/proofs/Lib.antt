@@ -1,4 +1,5 @@
 pub mod LineLemmas
 pub mod WholeLemmas
+pub mod LongLemmas
 pub mod TraceLemmas
 mod Rows

@@ -21,7 +21,7 @@ whole-join lines others bytes more a b = record {
       ∙ sym (append_assoc lines others (seen rest));
 }
 
-fed-length : (line : List ℕ) → IsFed line → length line ≤ seen_bytes
+pub fed-length : (line : List ℕ) → IsFed line → length line ≤ seen_bytes
 fed-length line f = omega (arith, f.short, ap length f.ended, length-append f.front (10 ∷ []))
 
 -- a line with its line feed is whole

@@ -1,4 +1,4 @@
-use Rattle.std.proofs.Common.{◌≡◌, refl}
+use Rattle.std.proofs.Common.{◌≡◌, arith, refl}
 use Rattle.play.proofs.JoinLemmas.{owing-later, run-join, run-stops}
 use Rattle.world_rules.specs.declared.cause.Cause.{Cause}
 use Rattle.world_replay.specs.Causes.{IsJudged}
@@ -11,6 +11,11 @@ pub play_in_form-ended-requires-clause-owing : goal.play_in_form-ended-requires-
 play_in_form-ended-requires-clause-owing g c =
     let first = rw c.in-Ok-true.field-0-test at c.in-Ok-true.ensures.turns in
     owing-later Cause (λ f. f ≡ replayed) (OwedFrom c.play_line.new.script.form) _ _ _ _ _ _ (record { owed = replayed; is = refl }) first
+
+pub play_in_form-ended-requires-clause-few : goal.play_in_form-ended-requires-clause-few
+play_in_form-ended-requires-clause-few g c =
+    let first = rw c.in-Ok-true.field-0-test at c.in-Ok-true.ensures.turns in
+    omega (arith, first.few, first.number)
 
 pub returns-clause-runs : goal.returns-clause-runs
 returns-clause-runs g c =

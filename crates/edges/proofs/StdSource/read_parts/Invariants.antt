@@ -13,6 +13,7 @@ invariant-parts g l = record {
   clear : has_no_feed l.line.items ≡ true;
   short : vec_len l.line ≤ seen_bytes;
   room : seen_bytes ≤ vec_capacity l.line;
+  kept : vec_capacity l.fn.line ≤ vec_capacity l.line;
 }
 
 abbrev pub decreases-parts : goal.decreases-parts

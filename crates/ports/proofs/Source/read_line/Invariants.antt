@@ -12,6 +12,7 @@ invariant-bytes g l = record {
   clear : has_no_feed l.line.items ≡ true;
   short : vec_len l.line ≤ seen_bytes;
   room : seen_bytes ≤ vec_capacity l.line;
+  kept : vec_capacity l.fn.line ≤ vec_capacity l.line;
 }
 
 abbrev pub decreases-bytes : goal.decreases-bytes
