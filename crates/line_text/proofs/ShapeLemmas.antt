@@ -1,5 +1,6 @@
 -- The words behind a line word pass the tests of its fields exactly where they spell their values.
-use Rattle.std.proofs.Common.{◌≡◌, ℕ, zero, suc, ◌<◌, ◌^◌, Bool, true, false, cond, List, [], ◌∷◌, length, map, replicate, Option, Some, None, refl, sym, ap, subst, ◌∙◌, arith}
+use Rattle.std.proofs.Common.{◌≡◌, ℕ, zero, suc, ◌<◌, ◌≤◌, ◌^◌, Bool, true, false, cond, List, [], ◌∷◌, length, map, replicate, Option, Some, None, refl, sym, ap, subst, ◌∙◌, arith}
+use Rattle.std.specs.Fmt.{decimal}
 use Rattle.std.specs.List.{AllByRecursion}
 use Rattle.std.specs.Str.{bytes_eq}
 use Rattle.std.proofs.lemmas.Bool.{and_parts}
@@ -7,9 +8,10 @@ use Rattle.std.proofs.lemmas.List.{length-map, length-replicate}
 use Rattle.std.proofs.lemmas.Slice.Eq.{bytes_eq-Decides}
 use Rattle.line_text.specs.declared.bad_word.BadWord.{BadWord}
 use Rattle.line_text.specs.Digits.{SpellsBytes}
-use Rattle.line_text.specs.Frame.{behind, first_of, first_word, word_tests}
-use Rattle.line_text.specs.Spellings.{Reads, SpellsAs, SpellsOrDash}
-use Rattle.line_text.specs.Shapes.{◌and◌, AllInRange, Field, Fields, InRange, Spells, SpellsAll, SpellsEach, Value, Values, maybe, any_name, bytes_as, bytes_from, bytes_of, bytes_up_to, has_one_word, have_one_word, no_more, number_as, number_from, number_where, so_many, test, tests_for, value, values, word_for, word_or, words_for}
+use Rattle.line_text.specs.Fields.{number, number_in}
+use Rattle.line_text.specs.Frame.{behind, first_of, first_word, or_else, word_tests}
+use Rattle.line_text.specs.Spellings.{Reads, SpellsAs, SpellsNumber, SpellsOrDash}
+use Rattle.line_text.specs.Shapes.{◌and◌, AllInRange, Field, Fields, InRange, Spells, SpellsAll, SpellsEach, Value, Values, maybe, any_name, bytes_as, bytes_from, bytes_of, bytes_up_to, falling, has_one_word, have_one_word, no_more, number_as, number_from, number_where, so_many, test, tests_for, value, values, word_for, word_or, words_for}
 use Rattle.line_text.proofs.FieldLemmas.{no_word}
 use Rattle.line_text.proofs.FrameLemmas.{or_none}
 use Rattle.line_text.proofs.SpellingLemmas.{as-spelled, as-taken, between-spelled, between-taken, fitting-spelled, fitting-taken, hex-spelled, hex-taken, name-spelled, name-taken, number-spelled, number-taken, numbered-spelled, numbered-taken, up_to-spelled, up_to-taken}
@@ -98,6 +100,18 @@ all-spelled (so_many n f) words e good =
 all-spelled (maybe f) [] e good = refl
 all-spelled (maybe f) (w ∷ words) e good =
     record { word = w; others = words; same = refl; is = spelled f w (or_none _ _ good).0; rest = no_word words (omega (arith, e)) }
+all-spelled (falling most fs) [] e good = absurd (omega (arith, e))
+all-spelled (falling most fs) (w ∷ []) e good = absurd (omega (arith, e))
+all-spelled (falling most fs) (w ∷ u ∷ words) e good =
+    let p = or_none _ _ good in
+    let q = or_none _ _ p.1 in
+    record {
+      word = w;
+      others = u ∷ words;
+      same = refl;
+      is = number-spelled 0 most w p.0;
+      rest = record { word = u; others = words; same = refl; is = number-spelled 0 (number_in w) u q.0; rest = all-spelled fs words (omega (arith, e)) q.1 };
+    }
 
 -- The words are as many as the tests, pass them, and have these values.
 pub record AllRead (fs : Fields) (words : List (List ℕ)) (vs : Values fs) : Type 0 where
@@ -126,6 +140,20 @@ both a b = (a, b)
 pair_is : {A B : Type 0} (a b : A) (c d : B) → a ≡ b → c ≡ d → both a c ≡ both b d
 pair_is a b c d e f = cc
 
+two_good : (a b others : Option BadWord) → a ≡ None → b ≡ None → others ≡ None → or_else a (or_else b others) ≡ None
+two_good a b others first second rest = rw first (rw second rest)
+
+falling_taken : (most : ℕ) (fs : Fields) (w u : List ℕ) (words : List (List ℕ)) (n m : ℕ) (vs : Values fs) → SpellsNumber 0 most w n → SpellsNumber 0 n u m → AllRead fs words vs → AllRead (falling most fs) (w ∷ u ∷ words) (n, (m, vs))
+falling_taken most fs w u words n m vs one two read =
+    let first = number-taken 0 most w n one in
+    let second = number-taken 0 n u m two in
+    let below = subst (λ (k : ℕ). number 0 k u ≡ none_bad) (sym first.same) second.good in
+    record {
+      many = ap (λ (k : ℕ). suc (suc k)) read.many;
+      good = two_good (number 0 most w) (number 0 (number_in w) u) (first_of (word_tests (tests_for fs words) words)) first.good below read.good;
+      same = pair_is (number_in w) n (both (number_in u) (values fs words)) (both m vs) first.same (pair_is (number_in u) m (values fs words) vs second.same read.same);
+    }
+
 -- Words that spell values pass the tests, and have these values.
 pub all-taken : (fs : Fields) (words : List (List ℕ)) (vs : Values fs) → SpellsAll fs words vs → AllRead fs words vs
 all-taken no_more words vs h = record { many = rw h refl; good = refl; same = refl }
@@ -148,6 +176,10 @@ all-taken (maybe f) words (Some v) h =
       good = rw h.same (rw read.good refl);
       same = rw h.same (ap Some read.same);
     }
+all-taken (falling most fs) words vs h =
+    let are : words ≡ h.word ∷ h.rest.word ∷ h.rest.others = h.same ∙ ap (λ (others : List (List ℕ)). h.word ∷ others) h.rest.same in
+    let read = all-taken fs h.rest.others vs.1.1 h.rest.rest in
+    subst (λ (ws : List (List ℕ)). AllRead (falling most fs) ws vs) (sym are) (falling_taken most fs h.word h.rest.word h.rest.others vs.0 vs.1.0 vs.1.1 h.is h.rest.is read)
 
 each_in_range : (f : Field) (words : List (List ℕ)) (vs : List (Value f)) → SpellsEach (Spells f) words vs → AllByRecursion (InRange f) vs
 each_in_range f [] [] h = tt
@@ -168,6 +200,7 @@ all-in_range (f and fs) words vs h = (in_range f h.word vs.0 h.is, all-in_range 
 all-in_range (so_many n f) words vs h = (each_long f words vs h.1 ∙ h.0, each_in_range f words vs h.1)
 all-in_range (maybe f) words None h = tt
 all-in_range (maybe f) words (Some v) h = in_range f h.word v h.is
+all-in_range (falling most fs) words vs h = (h.is.high, (h.rest.is.high, all-in_range fs h.rest.others vs.1.1 h.rest.rest))
 
 onto : (a b : List ℕ) (more rest : List (List ℕ)) → a ≡ b → more ≡ rest → a ∷ more ≡ b ∷ rest
 onto a b more rest e f = cc
@@ -188,6 +221,10 @@ all-words digits (so_many n f) words vs one h = each_words digits f words vs one
 all-words digits (maybe f) words None one h = h
 all-words digits (maybe f) words (Some v) one h =
     h.same ∙ onto h.word (word_for digits f v) h.others [] (one-word digits f h.word v one h.is) h.rest
+all-words digits (falling most fs) words vs one h =
+    let more = words_for digits fs vs.1.1 in
+    let second = h.rest.same ∙ onto h.rest.word (decimal vs.1.0) h.rest.others more h.rest.is.digits (all-words digits fs h.rest.others vs.1.1 one h.rest.rest) in
+    h.same ∙ onto h.word (decimal vs.0) h.others (decimal vs.1.0 ∷ more) h.is.digits second
 
 -- ## The word of bytes
 
@@ -210,6 +247,7 @@ has_one_digits no_more = true
 has_one_digits (f and fs) = cond (has_one_word f) (has_one_digits fs) (have_one_word fs)
 has_one_digits (so_many n f) = has_one_word f
 has_one_digits (maybe f) = true
+has_one_digits (falling most fs) = has_one_digits fs
 
 -- the word that does
 abbrev pub digits_among : Fields → List (List ℕ) → List ℕ
@@ -217,6 +255,7 @@ digits_among no_more words = []
 digits_among (f and fs) words = cond (has_one_word f) (digits_among fs (behind words)) (first_word words)
 digits_among (so_many n f) words = []
 digits_among (maybe f) words = first_word words
+digits_among (falling most fs) words = digits_among fs (behind (behind words))
 
 own_among : (f : Field) (fs : Fields) (word : List ℕ) (words : List (List ℕ)) (v : Value f) (vs : Values fs) (b : Bool) → has_one_word f ≡ b → cond b (has_one_digits fs) (have_one_word fs) ≡ true → Spells f word v → SpellsAll fs words vs
     → (has_one_digits fs ≡ true → words ≡ words_for (digits_among fs words) fs vs) → word ∷ words ≡ words_for (cond b (digits_among fs words) word) (f and fs) (v, vs)
@@ -236,6 +275,12 @@ all-own (maybe f) words None one h = h
 all-own (maybe f) words (Some v) one h =
     let own = onto h.word (word_for h.word f v) h.others [] (own-word f h.word v h.is) h.rest in
     subst (λ (ws : List (List ℕ)). ws ≡ words_for (digits_among (maybe f) ws) (maybe f) (Some v)) (sym h.same) own
+all-own (falling most fs) words vs one h =
+    let more = words_for (digits_among fs h.rest.others) fs vs.1.1 in
+    let second = onto h.rest.word (decimal vs.1.0) h.rest.others more h.rest.is.digits (all-own fs h.rest.others vs.1.1 one h.rest.rest) in
+    let own = onto h.word (decimal vs.0) (h.rest.word ∷ h.rest.others) (decimal vs.1.0 ∷ more) h.is.digits second in
+    let are : words ≡ h.word ∷ h.rest.word ∷ h.rest.others = h.same ∙ ap (λ (others : List (List ℕ)). h.word ∷ others) h.rest.same in
+    subst (λ (ws : List (List ℕ)). ws ≡ words_for (digits_among (falling most fs) ws) (falling most fs) vs) (sym are) own
 
 -- ## Words that are made of values
 
@@ -258,6 +303,7 @@ AllHaveWords digits (f and fs) vs = HasWord digits f vs.0 × AllHaveWords digits
 AllHaveWords digits (so_many n f) vs = AllByRecursion (HasWord digits f) vs
 AllHaveWords digits (maybe f) None = Unit {0}
 AllHaveWords digits (maybe f) (Some v) = HasWord digits f v
+AllHaveWords digits (falling most fs) vs = (vs.0 < 2 ^ 64) × ((vs.1.0 < 2 ^ 64) × AllHaveWords digits fs vs.1.1)
 
 made : (digits : List ℕ) (f : Field) (v : Value f) → InRange f v → HasWord digits f v → Spells f (word_for digits f v) v
 made digits (number_from low high) v range has = record { digits = refl; low = range.0; high = range.1; held = has }
@@ -283,3 +329,17 @@ all-made digits (f and fs) vs range has =
 all-made digits (so_many n f) vs range has = (length-map vs (word_for digits f) ∙ range.0, each_made digits f vs range.1 has)
 all-made digits (maybe f) None range has = refl
 all-made digits (maybe f) (Some v) range has = record { word = word_for digits f v; others = []; same = refl; is = made digits f v range has; rest = refl }
+all-made digits (falling most fs) vs range has =
+    record {
+      word = decimal vs.0;
+      others = decimal vs.1.0 ∷ words_for digits fs vs.1.1;
+      same = refl;
+      is = record { digits = refl; low = omega arith; high = range.0; held = has.0 };
+      rest = record {
+        word = decimal vs.1.0;
+        others = words_for digits fs vs.1.1;
+        same = refl;
+        is = record { digits = refl; low = omega arith; high = range.1.0; held = has.1.0 };
+        rest = all-made digits fs vs.1.1 range.1.1 has.1.1;
+      };
+    }

@@ -123,6 +123,8 @@ pub data Fields : Type 1 where
   so_many : ℕ → Field → Fields
   -- one word more, or none
   maybe : Field → Fields
+  -- a number that is at most so much, another that is at most the first, and the others
+  falling : ℕ → Fields → Fields
 
 infixr 30 ◌and◌
 -- the values of the words
@@ -131,6 +133,7 @@ Values no_more = Unit {0}
 Values (f and fs) = Value f × Values fs
 Values (so_many n f) = List (Value f)
 Values (maybe f) = Option (Value f)
+Values (falling most fs) = ℕ × (ℕ × Values fs)
 
 -- the tests of the words, by how many there are
 abbrev pub tests_for : Fields → List (List ℕ) → List Test
@@ -139,6 +142,8 @@ tests_for (f and fs) words = test f ∷ tests_for fs (behind words)
 tests_for (so_many n f) words = replicate n (test f)
 tests_for (maybe f) [] = []
 tests_for (maybe f) (word ∷ words) = test f ∷ []
+tests_for (falling most fs) words =
+    number 0 most ∷ number 0 (number_in (first_word words)) ∷ tests_for fs (behind (behind words))
 
 -- the tests of the words that there must be
 abbrev pub tests : Fields → List Test
@@ -153,6 +158,8 @@ values no_more words = tt
 values (f and fs) words = (value f (first_word words), values fs (behind words))
 values (so_many n f) words = map (value f) words
 values (maybe f) words = value_or_none f words
+values (falling most fs) words =
+    (number_in (first_word words), (number_in (first_word (behind words)), values fs (behind (behind words))))
 
 -- what makes a value of the values
 abbrev pub Makes : Fields → Type 0 → Type 0
@@ -160,12 +167,14 @@ Makes no_more L = L
 Makes (f and fs) L = Value f → Makes fs L
 Makes (so_many n f) L = List (Value f) → L
 Makes (maybe f) L = Option (Value f) → L
+Makes (falling most fs) L = ℕ → ℕ → Makes fs L
 
 abbrev pub made_of : {L : Type 0} (fs : Fields) → Makes fs L → Values fs → L
 made_of no_more make vs = make
 made_of (f and fs) make vs = made_of fs (make vs.0) vs.1
 made_of (so_many n f) make vs = make vs
 made_of (maybe f) make vs = make vs
+made_of (falling most fs) make vs = made_of fs (make vs.0 vs.1.0) vs.1.1
 
 -- the line that words are
 abbrev pub line_from : {L : Type 0} (fs : Fields) → Makes fs L → List (List ℕ) → L
@@ -192,6 +201,8 @@ SpellsAll (f and fs) words vs = Begins (λ word. Spells f word vs.0) (λ others.
 SpellsAll (so_many n f) words vs = (length words ≡ n) × SpellsEach (Spells f) words vs
 SpellsAll (maybe f) words None = words ≡ []
 SpellsAll (maybe f) words (Some v) = Begins (λ word. Spells f word v) (λ others. others ≡ []) words
+SpellsAll (falling most fs) words vs =
+    Begins (λ word. SpellsNumber 0 most word vs.0) (λ others. Begins (λ word. SpellsNumber 0 vs.0 word vs.1.0) (λ more. SpellsAll fs more vs.1.1) others) words
 
 -- Each value is in range, and there are as many as there may be.
 abbrev pub AllInRange : (fs : Fields) → Values fs → Type 0
@@ -200,6 +211,7 @@ AllInRange (f and fs) vs = InRange f vs.0 × AllInRange fs vs.1
 AllInRange (so_many n f) vs = (length vs ≡ n) × AllByRecursion (InRange f) vs
 AllInRange (maybe f) None = Unit {0}
 AllInRange (maybe f) (Some v) = InRange f v
+AllInRange (falling most fs) vs = (vs.0 ≤ most) × ((vs.1.0 ≤ vs.0) × AllInRange fs vs.1.1)
 
 -- the words of the values, where these digits spell bytes
 abbrev pub words_for : List ℕ → (fs : Fields) → Values fs → List (List ℕ)
@@ -208,6 +220,7 @@ words_for digits (f and fs) vs = word_for digits f vs.0 ∷ words_for digits fs 
 words_for digits (so_many n f) vs = map (word_for digits f) vs
 words_for digits (maybe f) None = []
 words_for digits (maybe f) (Some v) = word_for digits f v ∷ []
+words_for digits (falling most fs) vs = decimal vs.0 ∷ decimal vs.1.0 ∷ words_for digits fs vs.1.1
 
 -- whether values have their words alone
 abbrev pub have_one_word : Fields → Bool
@@ -215,3 +228,4 @@ have_one_word no_more = true
 have_one_word (f and fs) = has_one_word f && have_one_word fs
 have_one_word (so_many n f) = has_one_word f
 have_one_word (maybe f) = has_one_word f
+have_one_word (falling most fs) = have_one_word fs

@@ -5,6 +5,7 @@ use Rattle.line_text.specs.Frame.{judge as judge_line}
 use Rattle.schedule_direct.specs.declared.line.DirectLine.TheVariants as direct
 use Rattle.schedule_world.specs.declared.line.WorldLine.TheVariants as world
 use Rattle.schedule_world.specs.declared.text.WorldText.TheVariants as world_form
+use Rattle.schedule_texts.specs.declared.head_line.HeadLine.TheVariants as head
 use Rattle.schedule_texts.specs.declared.kit_line.KitLine.TheVariants as kit
 use Rattle.schedule_texts.specs.declared.line.RosterLine.TheVariants as roster
 use Rattle.schedule_texts.specs.declared.line.SecretLine.TheVariants as secret
@@ -28,5 +29,7 @@ operators : (judge (opening commands.Secret) (codes "fireflies 1 secret" ++ 10 �
     × (judge (opening commands.Roster) (codes "fireflies 1 roster" ++ 10 ∷ []) ≡ Ok (lines.Roster roster.Header))
     × (judge (opening commands.Kit) (codes "fireflies 1 kit" ++ 10 ∷ []) ≡ Ok (lines.Kit kit.Header))
     × (judge (opening commands.Kit) (codes "fireflies 1 roster" ++ 10 ∷ []) ≡ Err bad.Header)
+    × (judge (opening commands.Audit) (codes "fireflies 1 audit" ++ 10 ∷ []) ≡ Ok (lines.Head head.Header))
+    × (judge (opening commands.Audit) (codes "fireflies 1 kit" ++ 10 ∷ []) ≡ Err bad.Header)
 unfolding judge_line
-operators = (refl, refl, refl, refl, refl, refl)
+operators = (refl, refl, refl, refl, refl, refl, refl, refl)

@@ -22,6 +22,9 @@ use Rattle.schedule_texts.specs.RosterRows as roster_rows
 use Rattle.schedule_texts.specs.declared.kit.KitText.TheVariants as kit_form
 use Rattle.schedule_texts.specs.KitGrammar as kit
 use Rattle.schedule_texts.specs.KitRows as kit_rows
+use Rattle.schedule_texts.specs.declared.head.HeadText.TheVariants as head_form
+use Rattle.schedule_texts.specs.HeadGrammar as head
+use Rattle.schedule_texts.specs.HeadRows as head_rows
 use Rattle.verify_text.specs.declared.verify.Verify.TheVariants as verify_form
 use Rattle.verify_text.specs.Grammar as verify
 use Rattle.verify_text.specs.Rows as verify_rows
@@ -40,6 +43,7 @@ form_of commands.Secret = texts.Secret secret_form.Start
 form_of commands.Migrate = texts.Migrate migrate_form.Start
 form_of commands.Roster = texts.Roster roster_form.Start
 form_of commands.Kit = texts.Kit kit_form.Start
+form_of commands.Audit = texts.Head head_form.Start
 
 abbrev pub IsSound : Text → Type 0
 IsSound texts.Schedule = Unit {0}
@@ -50,6 +54,7 @@ IsSound (texts.Secret t) = secret.IsSound t
 IsSound (texts.Migrate t) = migrate.IsSound t
 IsSound (texts.Roster t) = roster.IsSound t
 IsSound (texts.Kit t) = kit.IsSound t
+IsSound (texts.Head t) = head.IsSound t
 
 abbrev pub is_ended : Text → Bool
 is_ended texts.Schedule = false
@@ -60,6 +65,7 @@ is_ended (texts.Secret t) = secret_rows.is_ended t
 is_ended (texts.Migrate t) = migrate_rows.is_ended t
 is_ended (texts.Roster t) = roster_rows.is_ended t
 is_ended (texts.Kit t) = kit_rows.is_ended t
+is_ended (texts.Head t) = head_rows.is_ended t
 
 -- The header of a schedule is that of the world form, or else what the direct form says of it.
 abbrev pub header_row : List (List ℕ) → Result (Row Line) BadWord
@@ -76,6 +82,7 @@ row_for (texts.Secret t) ws = row_of_line lines.Secret (secret_rows.row_for t ws
 row_for (texts.Migrate t) ws = row_of_line lines.Migrate (migrate_rows.row_for t ws)
 row_for (texts.Roster t) ws = row_of_line lines.Roster (roster_rows.row_for t ws)
 row_for (texts.Kit t) ws = row_of_line lines.Kit (kit_rows.row_for t ws)
+row_for (texts.Head t) ws = row_of_line lines.Head (head_rows.row_for t ws)
 
 -- These words are this line, which may stand here, with its numbers and bytes in range.
 abbrev pub Spells : Text → List (List ℕ) → Line → Type 0
@@ -88,6 +95,7 @@ Spells (texts.Secret t) ws (lines.Secret l) = secret.IsSecret t ws l
 Spells (texts.Migrate t) ws (lines.Migrate l) = migrate.IsMigrate t ws l
 Spells (texts.Roster t) ws (lines.Roster l) = roster.IsRoster t ws l
 Spells (texts.Kit t) ws (lines.Kit l) = kit.IsKit t ws l
+Spells (texts.Head t) ws (lines.Head l) = head.IsHead t ws l
 Spells _ ws _ = ⊥
 
 abbrev pub TakesMemory : Line → Type 0
@@ -98,6 +106,7 @@ TakesMemory (lines.Secret l) = secret_rows.TakesMemory l
 TakesMemory (lines.Migrate l) = secret_rows.TakesMemory l
 TakesMemory (lines.Roster l) = roster_rows.TakesMemory l
 TakesMemory (lines.Kit l) = kit_rows.TakesMemory l
+TakesMemory (lines.Head l) = head_rows.TakesMemory l
 
 abbrev pub after : Text → Line → Text
 after texts.Schedule (lines.Direct l) = texts.Direct (direct.after direct_form.Start l)
@@ -109,6 +118,7 @@ after (texts.Secret t) (lines.Secret l) = texts.Secret (secret.after t l)
 after (texts.Migrate t) (lines.Migrate l) = texts.Migrate (migrate.after t l)
 after (texts.Roster t) (lines.Roster l) = texts.Roster (roster.after t l)
 after (texts.Kit t) (lines.Kit l) = texts.Kit (kit.after t l)
+after (texts.Head t) (lines.Head l) = texts.Head (head.after t l)
 after text _ = text
 
 -- ## A reader

@@ -23,6 +23,8 @@ use Rattle.schedule_texts.specs.RosterRows as roster_rows
 use Rattle.schedule_texts.specs.RosterLaws.{roster-spelled, roster-taken}
 use Rattle.schedule_texts.specs.KitRows as kit_rows
 use Rattle.schedule_texts.specs.KitLaws.{kit-spelled, kit-taken}
+use Rattle.schedule_texts.specs.HeadRows as head_rows
+use Rattle.schedule_texts.specs.HeadLaws.{head-spelled, head-taken}
 use Rattle.verify_text.specs.Rows as verify_rows
 use Rattle.verify_text.specs.Laws.{verify-spelled, verify-taken}
 use Rattle.schedule.specs.declared.text.Line.{Line}
@@ -85,6 +87,9 @@ text-spelled (texts.Roster t) first args l e =
 text-spelled (texts.Kit t) first args l e =
     let m = row_of_line-ok lines.Kit (kit_rows.row_for t (first ∷ args)) args l e in
     subst (Spells (texts.Kit t) (first ∷ args)) m.2 (kit-spelled t first args m.0 m.1)
+text-spelled (texts.Head t) first args l e =
+    let m = row_of_line-ok lines.Head (head_rows.row_for t (first ∷ args)) args l e in
+    subst (Spells (texts.Head t) (first ∷ args)) m.2 (head-spelled t first args m.0 m.1)
 
 -- What is a line is taken, as that line.
 pub text-taken : (t : Text) (first : List ℕ) (args : List (List ℕ)) (l : Line) → IsSound t → Spells t (first ∷ args) l → row_line (row_for t (first ∷ args)) args ≡ Ok l
@@ -110,4 +115,6 @@ text-taken (texts.Roster t) first args (lines.Roster l) sound h =
     row_of_line-line lines.Roster (roster_rows.row_for t (first ∷ args)) args l (roster-taken t first args l sound h)
 text-taken (texts.Kit t) first args (lines.Kit l) sound h =
     row_of_line-line lines.Kit (kit_rows.row_for t (first ∷ args)) args l (kit-taken t first args l sound h)
+text-taken (texts.Head t) first args (lines.Head l) sound h =
+    row_of_line-line lines.Head (head_rows.row_for t (first ∷ args)) args l (head-taken t first args l sound h)
 text-taken _ first args _ sound h = absurd h

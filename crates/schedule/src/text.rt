@@ -8,7 +8,8 @@ ghost use Rattle.schedule.specs.Forms.{IsSound, Spells, TakesMemory, after, form
 use line_text::{Form, LineFault, Words};
 use schedule_direct::{Direct, DirectLine};
 use schedule_texts::{
-    KitLine, KitText, MigrateText, RosterLine, RosterText, SecretLine, SecretText,
+    HeadLine, HeadText, KitLine, KitText, MigrateText, RosterLine, RosterText, SecretLine,
+    SecretText,
 };
 use schedule_world::{WorldLine, WorldText};
 use std::alloc::Global;
@@ -29,6 +30,8 @@ pub enum Command {
     Roster,
     /// What a member starts from.
     Kit,
+    /// What a life is judged from, above its journal.
+    Audit,
 }
 
 /// One line of a text, by its form. Some hold a secret, so a line is not printed.
@@ -48,6 +51,8 @@ pub enum Line {
     Roster(RosterLine),
     /// A line of the text of a member.
     Kit(KitLine),
+    /// A line of the head of an audit.
+    Head(HeadLine),
 }
 
 /// What has been read of a text, by its form.
@@ -69,6 +74,8 @@ pub enum Text {
     Roster(RosterText),
     /// The text of a member.
     Kit(KitText),
+    /// The head of an audit.
+    Head(HeadText),
 }
 
 impl Text {
@@ -83,6 +90,7 @@ impl Text {
             Command::Migrate => Text::Migrate(MigrateText::Start),
             Command::Roster => Text::Roster(RosterText::Start),
             Command::Kit => Text::Kit(KitText::Start),
+            Command::Audit => Text::Head(HeadText::Start),
         }
     }
 }
@@ -115,8 +123,12 @@ fn schedule_text(line: &Line) -> Text
             world.advance(line);
             Text::World(world)
         }
-        Line::Verify(_) | Line::Secret(_) | Line::Migrate(_) | Line::Roster(_) | Line::Kit(_) =>
-            Text::Schedule,
+        Line::Verify(_)
+        | Line::Secret(_)
+        | Line::Migrate(_)
+        | Line::Roster(_)
+        | Line::Kit(_)
+        | Line::Head(_) => Text::Schedule,
     }
 }
 
@@ -147,6 +159,7 @@ impl Form for Text {
             Text::Migrate(migrate) => migrate.is_ended(),
             Text::Roster(roster) => roster.is_ended(),
             Text::Kit(kit) => kit.is_ended(),
+            Text::Head(head) => head.is_ended(),
         }
     }
 
@@ -160,6 +173,7 @@ impl Form for Text {
             Text::Migrate(migrate) => Ok(Line::Migrate(migrate.judge(alloc, words)?)),
             Text::Roster(roster) => Ok(Line::Roster(roster.judge(alloc, words)?)),
             Text::Kit(kit) => Ok(Line::Kit(kit.judge(alloc, words)?)),
+            Text::Head(head) => Ok(Line::Head(head.judge(alloc, words)?)),
         }
     }
 
@@ -176,6 +190,7 @@ impl Form for Text {
             (Text::Migrate(migrate), Line::Migrate(line)) => migrate.advance(line),
             (Text::Roster(roster), Line::Roster(line)) => roster.advance(line),
             (Text::Kit(kit), Line::Kit(line)) => kit.advance(line),
+            (Text::Head(head), Line::Head(line)) => head.advance(line),
             _ => {}
         }
     }

@@ -4,3 +4,6 @@ pub mod TableLemmas
 pub mod KindLemmas
 mod KitRows
 pub mod KitReadingLemmas
+mod HeadRows
+pub mod StateLemmas
+pub mod HeadWalks

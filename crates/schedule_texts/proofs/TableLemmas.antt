@@ -1,7 +1,11 @@
 -- Lines of a value.
-use Rattle.std.proofs.Common.{◌≡◌, ℕ, Bool, true, false, ◌||◌, List, Option, Some, None, Result, Ok, Err, ap}
+use Rattle.std.proofs.Common.{◌≡◌, ℕ, Bool, true, false, ◌||◌, List, Option, Some, None, Result, Ok, Err, ap, sym}
+use Rattle.std.specs.Prelude.{⊤, IsOkAnd}
 use Rattle.line_text.specs.declared.bad_word.BadWord.{BadWord}
 use Rattle.line_text.specs.declared.bad_word.BadWord.TheVariants as bad
+use Rattle.line_text.specs.declared.bad_word.LineFault.{LineFault}
+use Rattle.line_text.specs.declared.bad_word.LineFault.TheVariants as faults
+use Rattle.line_text.specs.Answers.{AnswersBy}
 use Rattle.line_text.specs.Fields.{Test, bad_where}
 use Rattle.line_text.specs.Frame.{field_tests, fields_line, first_of, unless_bad, whole_line}
 
@@ -39,6 +43,22 @@ value_bad fields fault value line args w e = bad_whole (first_of (field_tests fi
 
 pub value_good : {V L : Type 0} (fields : List Test) (fault : List (List ℕ) → Option BadWord) (value : List (List ℕ) → V) (of : V → L) (args : List (List ℕ)) (x : V) → given x ≡ whole_line fields fault value args → given (of x) ≡ whole_line fields fault (λ ws. of (value ws)) args
 value_good fields fault value of args x e = good_whole (first_of (field_tests fields args)) (fault args) (value args) x of e
+
+-- ## Lines whose value takes memory
+
+memory_too : {V L : Type 0} (o p : Option BadWord) (v : V) (of : V → L) (Takes : L → Type 0) → ((x : V) → Takes (of x)) → IsOkAnd (unless_bad o (unless_bad p (given v))) (λ x. ⊤) → IsOkAnd (unless_bad o (unless_bad p (given (of v)))) Takes
+memory_too None None v of Takes takes h = takes v
+memory_too None (Some w) v of Takes takes h = absurd h
+memory_too (Some w) p v of Takes takes h = absurd h
+
+-- what refuses a value refuses its line, be it want of memory
+pub made_bad : {V L : Type 0} (fields : List Test) (fault : List (List ℕ) → Option BadWord) (value : List (List ℕ) → V) (of : V → L) (Takes : L → Type 0) → ((x : V) → Takes (of x)) → (args : List (List ℕ)) (f : LineFault) → AnswersBy (λ x. ⊤) (whole_line fields fault value args) (Err f)
+    → AnswersBy Takes (whole_line fields fault (λ ws. of (value ws)) args) (Err f)
+made_bad fields fault value of Takes takes args (faults.Bad w) h = sym (value_bad fields fault value (λ ws. of (value ws)) args w (sym h))
+made_bad fields fault value of Takes takes args faults.OutOfMemory h = memory_too (first_of (field_tests fields args)) (fault args) (value args) of Takes takes h
+
+pub made_good : {V L : Type 0} (fields : List Test) (fault : List (List ℕ) → Option BadWord) (value : List (List ℕ) → V) (of : V → L) (args : List (List ℕ)) (x : V) → whole_line fields fault value args ≡ given x → whole_line fields fault (λ ws. of (value ws)) args ≡ given (of x)
+made_good fields fault value of args x h = sym (value_good fields fault value of args x (sym h))
 
 -- ## Lines that are refused as a whole in one text more
 

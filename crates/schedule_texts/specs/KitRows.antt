@@ -3,6 +3,7 @@
 use Rattle.std.specs.Prelude.{ℕ, Bool, true, false, not, ◌&&◌, if◌then◌else◌, is_ok, List, [], ◌∷◌, Option, Some, None, Result, Err, codes, slice_index_or, bytes_eq}
 use Rattle.ff_ids.specs.declared.TheConstants.{LAST_MEMBER}
 use Rattle.ff_ids.specs.declared.Group.{Group}
+use Rattle.ff_ids.specs.Heals.{Heal}
 use Rattle.lms_ots.specs.declared.kind.OtsKind.TheVariants.{W1}
 use Rattle.lms_tree.specs.declared.kind.TreeKind.TheVariants.{H5}
 use Rattle.lms_tree.specs.declared.key.PublicKey.{PublicKey}
@@ -71,14 +72,25 @@ signature_field = bytes_from 1 9004
 abbrev pub signature : Test
 signature word = test signature_field word
 
+-- N A
+abbrev pub heal_shape : Fields
+heal_shape = number_from 2 1000 and number_from 0 1000 and no_more
+
+abbrev pub heal_of : ℕ → ℕ → Heal
+heal_of every most = record { every = every; most = most }
+
+-- M PORT KEY SIGNATURE
+abbrev pub cert_shape : Fields
+cert_shape = member_field and port_field and key_field and signature_field and no_more
+
 abbrev pub fields : LineWord → Fields
 fields words.Group = group_shape
 fields words.Kinds = kinds_shape
-fields words.Heal = number_from 2 1000 and number_from 0 1000 and no_more
+fields words.Heal = heal_shape
 fields words.Own = member_field and bytes_of 32 and no_more
 fields words.Authority = lms_key_field and no_more
 fields words.Tick = number_from 1 60000 and no_more
-fields words.Cert = member_field and port_field and key_field and signature_field and no_more
+fields words.Cert = cert_shape
 fields words.End = no_more
 
 -- ## What refuses a line as a whole
@@ -92,8 +104,7 @@ abbrev pub is_good : Group → PublicKey → List Bool → CertBody → List ℕ
 is_good g authority named cert signed_by =
     not (is_named named cert.member) && is_ok (verdict_of (keys.Lms authority) (signed_bytes g.tag g.t (Certificate cert)) signed_by)
 
--- M PORT KEY SIGNATURE
-abbrev pub cert_fault : Group → PublicKey → List Bool → Values (fields words.Cert) → Option BadWord
+abbrev pub cert_fault : Group → PublicKey → List Bool → Values cert_shape → Option BadWord
 cert_fault g authority named vs =
     bad_where bad.Cert (not (is_good g authority named (cert_of vs.0 vs.1.0 vs.1.1.0) vs.1.1.1.0))
 
@@ -138,7 +149,7 @@ abbrev pub line : (form : KitText) (word : LineWord) → Makes (fields word) Kit
 line form words.Group = λ t timeout period misses tag.
     lines.Group (group_of t timeout period misses tag)
 line form words.Kinds = λ wide high low. lines.Kinds (kinds_of wide high low)
-line form words.Heal = λ every most. lines.Heal (record { every = every; most = most })
+line form words.Heal = λ every most. lines.Heal (heal_of every most)
 line form words.Own = λ m secret. lines.Own m secret (own_key form secret)
 line form words.Authority = λ key. lines.Authority key
 line form words.Tick = λ millis. lines.Tick millis
@@ -202,8 +213,11 @@ line_word word = word_among word_text line_words word
 abbrev pub fields_of : LineWord → List Test
 fields_of word = tests (fields word)
 
-abbrev pub heal_line : List (List ℕ) → KitLine
-heal_line args = line_from (fields words.Heal) (line kit.Start words.Heal) args
+abbrev pub heal_fields : List Test
+heal_fields = tests heal_shape
+
+abbrev pub heal_in : List (List ℕ) → Heal
+heal_in args = line_from heal_shape heal_of args
 
 abbrev pub own_line : Kinds → List (List ℕ) → KitLine
 own_line kinds args =
@@ -215,12 +229,15 @@ authority_line args = line_from (fields words.Authority) (line kit.Start words.A
 abbrev pub tick_line : List (List ℕ) → KitLine
 tick_line args = line_from (fields words.Tick) (line kit.Start words.Tick) args
 
-abbrev pub cert_line : Group → PublicKey → List (List ℕ) → KitLine
-cert_line g authority args =
-    line_from (fields words.Cert) (λ m at key signed_by. lines.Cert (checked_as g authority (cert_of m at key) signed_by)) args
+abbrev pub cert_fields : List Test
+cert_fields = tests cert_shape
+
+abbrev pub cert_in : Group → PublicKey → List (List ℕ) → CheckedRecord
+cert_in g authority args =
+    line_from cert_shape (λ m at key signed_by. checked_as g authority (cert_of m at key) signed_by) args
 
 abbrev pub cert_fault_in : Group → PublicKey → List Bool → List (List ℕ) → Option BadWord
-cert_fault_in g authority named args = cert_fault g authority named (values (fields words.Cert) args)
+cert_fault_in g authority named args = cert_fault g authority named (values cert_shape args)
 
 -- What the words behind a line word are read as.
 abbrev pub reads : KitText → LineWord → List (List ℕ) → Result KitLine BadWord
@@ -228,14 +245,14 @@ reads kit.Headed words.Group args = fields_line group_fields (λ ws. lines.Group
 reads (kit.Grouped g) words.Kinds args =
     whole_line (kinds_fields args) kinds_fault_in (λ ws. lines.Kinds (kinds_in ws)) args
 reads (kit.Kinded g kinds heal) words.Heal args =
-    if not heal then fields_line (fields_of words.Heal) heal_line args else Err bad.Order
+    if not heal then fields_line heal_fields (λ ws. lines.Heal (heal_in ws)) args else Err bad.Order
 reads (kit.Kinded g kinds heal) words.Own args = fields_line (fields_of words.Own) (own_line kinds) args
 reads (kit.Owned owner) words.Authority args =
     fields_line (fields_of words.Authority) authority_line args
 reads (kit.Authorized owner authority) words.Tick args =
     fields_line (fields_of words.Tick) tick_line args
 reads (kit.Body owner authority named own) words.Cert args =
-    whole_line (fields_of words.Cert) (cert_fault_in owner.group authority named) (cert_line owner.group authority) args
+    whole_line cert_fields (cert_fault_in owner.group authority named) (λ ws. lines.Cert (cert_in owner.group authority ws)) args
 reads (kit.Body owner authority named own) words.End args =
     whole_line [] (λ ws. end_fault owner.key own) (λ ws. lines.End) args
 reads _ _ args = Err bad.Order

@@ -12,3 +12,7 @@ pub mod RosterLaws
 pub mod KitRows
 pub mod KitGrammar
 pub mod KitLaws
+pub mod HeadRows
+pub mod HeadGrammar
+pub mod HeadLaws
+pub mod HeadValues

@@ -6,9 +6,9 @@ ghost use Rattle.schedule_texts.specs.declared.kit_line.KitLine.TheVariants.{End
 ghost use Rattle.schedule_texts.specs.KitRows.{TakesMemory, end_fault, is_ended, is_owned, kit_table, reads, row_for};
 ghost use Rattle.schedule_texts.specs.KitGrammar.{IsKit, IsSound, after, certified_by, certifying, nobody};
 
-use crate::kit_cert::cert_line;
+use crate::kit_cert::read_cert;
 use crate::kit_line::{KitLine, LineWord};
-use crate::kit_read::{authority_line, heal_line, line_word, own_line, tick_line};
+use crate::kit_read::{authority_line, line_word, own_line, read_heal, tick_line};
 use crate::{read_group, read_kinds};
 use ff_ids::{Group, MEMBERS, MemberId};
 use line_text::{BadWord, Form, LineFault, TableForm, Words, judge_by_table};
@@ -87,7 +87,7 @@ fn end_line(owner: &Owner, own: &Option<Key>, args: Words) -> Result<KitLine, Ba
 }
 
 /// The key in the certificate of the own number, behind one more certificate.
-fn own_key(me: MemberId, cert: &CertBody, own: Option<Key>) -> Option<Key>
+pub(crate) fn own_key(me: MemberId, cert: &CertBody, own: Option<Key>) -> Option<Key>
     ensures { result ≡ (if cert.now.member == me then Some cert.now.key else own) }
 {
     if cert.member == me {
@@ -188,7 +188,7 @@ impl TableForm for KitText {
                     ..
                 },
                 LineWord::Heal,
-            ) => Ok(heal_line(args)?),
+            ) => Ok(KitLine::Heal(read_heal(args)?)),
             (KitText::Kinded { kinds, .. }, LineWord::Own) => own_line(alloc, *kinds, args),
             (KitText::Owned { .. }, LineWord::Authority) => Ok(authority_line(args)?),
             (KitText::Authorized { .. }, LineWord::Tick) => Ok(tick_line(args)?),
@@ -200,7 +200,7 @@ impl TableForm for KitText {
                     ..
                 },
                 LineWord::Cert,
-            ) => cert_line(alloc, &owner.group, authority, named, args),
+            ) => { Ok(KitLine::Cert(read_cert(alloc, &owner.group, authority, named, args)?)) }
             (KitText::Body { owner, own, .. }, LineWord::End) => Ok(end_line(owner, own, args)?),
             _ => Err(LineFault::Bad(BadWord::Order)),
         }

@@ -1,6 +1,6 @@
 //! The `cert` line. All of it is judged, the signature too, before memory is asked for.
 
-ghost use Rattle.std.specs.Prelude.{◌≡◌, ◌≤◌, take, true, is_ok, IfOk, Some};
+ghost use Rattle.std.specs.Prelude.{◌≡◌, ◌≤◌, take, true, is_ok, ⊤, IfOk, Some};
 ghost use Rattle.hex.specs.Hex.{decode_of};
 ghost use Rattle.line_text.specs.Answers.{AnswersBy, refusal};
 ghost use Rattle.line_text.specs.Fields.{hex_of};
@@ -9,9 +9,8 @@ ghost use Rattle.records.specs.declared.Body.TheVariants.{Certificate};
 ghost use Rattle.records.specs.Signing.{signed_bytes};
 ghost use Rattle.records.specs.Keys.{Verifies};
 ghost use Rattle.records.specs.declared.keys.Key.TheVariants as keys;
-ghost use Rattle.schedule_texts.specs.KitRows.{TakesMemory, cert_fault_in, cert_line, fields_of, is_good, signature};
+ghost use Rattle.schedule_texts.specs.KitRows.{cert_fault_in, cert_fields, cert_in, is_good, signature};
 
-use crate::kit_line::{KitLine, LineWord};
 use crate::kit_read::take_member;
 use crate::{take_key, take_port};
 use ff_ids::{Group, MEMBERS};
@@ -74,16 +73,16 @@ fn is_good(
 }
 
 /// The certificate that the words behind `cert` are.
-pub(crate) fn cert_line(
+pub(crate) fn read_cert(
     alloc: Global,
     group: &Group,
     authority: &PublicKey,
     named: &[bool; MEMBERS as usize],
     args: Words,
-) -> Result<KitLine, LineFault>
-    ensures { AnswersBy TakesMemory
-        (whole_line (fields_of LineWord.Cert) (cert_fault_in group.now authority.now named.now)
-        (cert_line group.now authority.now) args.entry) result }
+) -> Result<Checked, LineFault>
+    ensures { AnswersBy (λ _. ⊤)
+        (whole_line cert_fields (cert_fault_in group.now authority.now named.now)
+        (cert_in group.now authority.now) args.entry) result }
 {
     let mut args = args.exactly(4)?;
     let member = take_member(&mut args)?;
@@ -101,5 +100,5 @@ pub(crate) fn cert_line(
         body: Body::Certificate(cert),
         signature,
     };
-    Ok(KitLine::Cert(Checked::from_signed(group, &Key::Lms(*authority), rec)))
+    Ok(Checked::from_signed(group, &Key::Lms(*authority), rec))
 }

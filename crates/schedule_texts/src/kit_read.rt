@@ -5,7 +5,7 @@ ghost use Rattle.sign_keys.specs.Kinds.{is_in_profile};
 ghost use Rattle.line_text.specs.Answers.{AnswersBy, refusal};
 ghost use Rattle.line_text.specs.Fields.{number_in};
 ghost use Rattle.line_text.specs.Frame.{behind, fields_line, first_word, word_or_bad};
-ghost use Rattle.schedule_texts.specs.KitRows.{TakesMemory, authority_line, fields_of, heal_line, line_word, member, own_line, tick_line};
+ghost use Rattle.schedule_texts.specs.KitRows.{TakesMemory, authority_line, fields_of, heal_fields, heal_in, line_word, member, own_line, tick_line};
 
 use crate::kit_line::{KitLine, LineWord};
 use crate::take_lms_key;
@@ -50,14 +50,15 @@ pub(crate) fn take_member(words: &mut Words) -> Result<MemberId, BadWord>
     Ok(MemberId::new(number as u16))
 }
 
-pub(crate) fn heal_line(args: Words) -> Result<KitLine, BadWord>
-    ensures { result ≡ fields_line (fields_of LineWord.Heal) heal_line args.entry }
+/// The option that the words behind `heal` are.
+pub(crate) fn read_heal(args: Words) -> Result<Heal, BadWord>
+    ensures { result ≡ fields_line heal_fields heal_in args.entry }
 {
     let mut args = args.exactly(2)?;
     let every = args.number(2, 1_000)?;
     let most = args.number(0, 1_000)?;
     match Heal::new(every as u16, most as u16) {
-        Some(heal) => Ok(KitLine::Heal(heal)),
+        Some(heal) => Ok(heal),
         None => unreachable!(),
     }
 }

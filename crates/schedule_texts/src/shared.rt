@@ -70,7 +70,7 @@ fn take_width(words: &mut Words) -> Result<OtsKind, BadWord>
 
 /// Takes the height of a kind of trees.
 #[tactic(auto, using(crate::proofs::FieldLemmas::no_height, crate::proofs::FieldLemmas::other_height, crate::proofs::FieldLemmas::a_height))]
-fn take_height(words: &mut Words) -> Result<TreeKind, BadWord>
+pub(crate) fn take_height(words: &mut Words) -> Result<TreeKind, BadWord>
     ensures refused { height (first_word words.old) ≡ refusal result }
     ensures value { IfOk result (λ kind. kind ≡ tree_in_word (first_word words.old)) }
     ensures moved { words.new ≡ behind words.old }

@@ -13,6 +13,8 @@ mod enrolling;
 #[cfg(test)]
 mod field_bytes;
 #[cfg(test)]
+mod head_lines;
+#[cfg(test)]
 mod heal_lines;
 #[cfg(test)]
 mod journals;

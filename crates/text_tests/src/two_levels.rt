@@ -1,6 +1,6 @@
 //! Texts with keys of two levels.
 
-mod signed;
+pub mod signed;
 
 use ff_ids::KeyBytes;
 use fixtures::sink;

@@ -7,6 +7,7 @@ use Rattle.schedule_texts.specs.SecretRows as secret
 use Rattle.schedule_texts.specs.MigrateRows as migrate
 use Rattle.schedule_texts.specs.RosterRows as roster
 use Rattle.schedule_texts.specs.KitRows as kit
+use Rattle.schedule_texts.specs.HeadRows as head
 use Rattle.verify_text.specs.Rows as verify
 use Rattle.schedule.specs.declared.text.Line.TheVariants as lines
 use Rattle.schedule.specs.Forms.{TakesMemory}
@@ -75,3 +76,12 @@ returns-in_err-judge-in-Kit c =
 pub returns-in_ok-judge-in-Kit : goal.returns-in_ok-judge-in-Kit
 returns-in_ok-judge-in-Kit c =
     rw c.in-Kit.is (row_of_line-line lines.Kit (kit.row_for c.in-Kit.kit c.args.words) (behind c.args.words) c.in_ok-judge-in-Kit.field-0 c.in_ok-judge-in-Kit.ensures)
+
+pub returns-in_err-judge-in-Head : goal.returns-in_err-judge-in-Head
+returns-in_err-judge-in-Head c =
+    let x = answers-of lines.Head head.TakesMemory TakesMemory (λ l t. t) (head.row_for c.in-Head.head c.args.words) (behind c.args.words) (Err c.in_err-judge-in-Head.field-0.0) c.in_err-judge-in-Head.ensures in
+    rw c.in-Head.is (search (rules, x))
+
+pub returns-in_ok-judge-in-Head : goal.returns-in_ok-judge-in-Head
+returns-in_ok-judge-in-Head c =
+    rw c.in-Head.is (row_of_line-line lines.Head (head.row_for c.in-Head.head c.args.words) (behind c.args.words) c.in_ok-judge-in-Head.field-0 c.in_ok-judge-in-Head.ensures)
