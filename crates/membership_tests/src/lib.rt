@@ -11,6 +11,8 @@ mod detecting;
 #[cfg(test)]
 mod held_records;
 #[cfg(test)]
+mod known_records;
+#[cfg(test)]
 mod monitors;
 #[cfg(test)]
 mod partners;

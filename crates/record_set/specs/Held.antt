@@ -1,46 +1,23 @@
 -- The records that are held, each under its key.
-use Rattle.std.specs.Prelude.{ℕ, List, [], ◌∷◌, Option, Some, None}
-use Rattle.std.specs.Ordering.{nat_cmp}
-use Rattle.std.specs.Cmp.Lexicographic.{slice_cmp}
-use Rattle.std.specs.declared.cmp.Ordering.{Ordering}
-use Rattle.std.specs.FinMap as map
+use Rattle.std.specs.Prelude.{ℕ, Option}
 use Rattle.ff_ids.specs.declared.RingNo.{RingNo}
 use Rattle.ff_ids.specs.declared.summary.RecordKey.{RecordKey}
-use Rattle.ff_ids.specs.declared.summary.RecordKey.TheVariants as keys
-use Rattle.records.specs.declared.Body.{Body}
-use Rattle.records.specs.declared.Body.TheVariants as bodies
 use Rattle.records.specs.Signing.{CheckedRecord}
-
--- A key is its kind, the member, and of a kept accusation the ring.
-abbrev pub key_numbers : RecordKey → List ℕ
-key_numbers (keys.Certificate m) = 0 ∷ m ∷ []
-key_numbers (keys.Note m) = 1 ∷ m ∷ []
-key_numbers (keys.Accusation m ring) = 2 ∷ m ∷ ring.0 ∷ []
-key_numbers (keys.Removal m) = 3 ∷ m ∷ []
-
-abbrev pub key_cmp : RecordKey → RecordKey → Ordering
-key_cmp a b = slice_cmp nat_cmp (key_numbers a) (key_numbers b)
+use Rattle.record_slots.specs.Held as slots
+pub use Rattle.record_slots.specs.Held.{key_numbers, key_cmp, key_of}
 
 -- By each key the record that is held under it, as it was checked.
 abbrev pub Held : Type 0
-Held = map.FinMap key_cmp CheckedRecord
+Held = slots.HeldOf CheckedRecord
 
 -- The record that is held under the key, or none.
 abbrev pub held_under : Held → RecordKey → Option CheckedRecord
-held_under held k = map.get held k
-
--- The key of what a record says: an accusation has that of the accused and the ring, as long as it is kept.
-abbrev pub key_of : Body → RecordKey
-key_of (bodies.Certificate c) = keys.Certificate c.member
-key_of (bodies.Note n) = keys.Note n.member
-key_of (bodies.Accusation a) = keys.Accusation a.accused a.ring
+held_under held k = slots.held_under held k
 
 -- Under the key there is this record, or none.
 abbrev pub with_option : Held → RecordKey → Option CheckedRecord → Held
-with_option held k None = map.remove held k
-with_option held k (Some c) = map.insert held k c
+with_option held k o = slots.with_option held k o
 
 -- The accusation against the member on the ring is that of its removal now, and kept no more.
 abbrev pub retired : Held → ℕ → RingNo → Held
-retired held m ring =
-    with_option (map.remove held (keys.Accusation m ring)) (keys.Removal m) (held_under held (keys.Accusation m ring))
+retired held m ring = slots.retired held m ring

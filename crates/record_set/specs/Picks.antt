@@ -1,13 +1,14 @@
 -- What may be put, and what fits of a list of records.
-use Rattle.std.specs.Prelude.{◌≡◌, ℕ, ◌+◌, ◌-◌, ◌<◌, ◌≤◌, nat_le, if◌then◌else◌, List, [], ◌∷◌, ◌++◌, length, take}
-use Rattle.std.specs.List.{flat_map, filter_map}
+use Rattle.std.specs.Prelude.{◌≡◌, ℕ, ◌<◌, ◌≤◌, List, ◌++◌, length, take}
+use Rattle.std.specs.List.{flat_map}
 use Rattle.ff_ids.specs.declared.summary.RecordKey.{RecordKey}
 use Rattle.ff_ids.specs.Masks.{ring_count}
 use Rattle.records.specs.declared.Body.{Body}
 use Rattle.records.specs.declared.Body.TheVariants as bodies
 use Rattle.records.specs.Spelling.{record_bytes}
 use Rattle.records.specs.Signing.{CheckedRecord}
-use Rattle.record_set.specs.Held.{Held, held_under}
+use Rattle.record_set.specs.Held.{Held}
+use Rattle.record_slots.specs.Picks as slots
 
 -- ---- what a caller sees to
 
@@ -21,17 +22,19 @@ HasRing t (bodies.Accusation a) = a.ring.0 < ring_count t
 
 -- the records under the keys that have one, in the order of the keys
 abbrev pub held_all : Held → List RecordKey → List CheckedRecord
-held_all held ks = filter_map (held_under held) ks
+held_all held ks = slots.held_all held ks
 
 -- one record's spelling behind another's
 abbrev pub spelled : List CheckedRecord → List ℕ
 spelled records = flat_map (λ c. record_bytes c.rec) records
 
+-- how many bytes the record's spelling has
+abbrev pub long : CheckedRecord → ℕ
+long c = length (record_bytes c.rec)
+
 -- How many of the records fit into the room, one behind the other, up to the first that doesn't.
 abbrev pub fitting : ℕ → List CheckedRecord → ℕ
-fitting room [] = 0
-fitting room (c ∷ records) =
-    if nat_le (length (record_bytes c.rec)) room then 1 + fitting (room - length (record_bytes c.rec)) records else 0
+fitting room records = slots.fitting long room records
 
 -- So many of the records are the longest front of them that fits.
 pub record IsLongestFit (room : ℕ) (records : List CheckedRecord) (count : ℕ) : Type 0 where
