@@ -5,7 +5,7 @@ use Rattle.std.proofs.KnownBytes.{Appends-trans}
 use Rattle.journal.specs.declared.event.What as whats
 use Rattle.journal.specs.declared.event.What.TheVariants as told
 use Rattle.play.specs.Plays.{IoState}
-use Rattle.records.specs.declared.Body.TheVariants.{Note, Accusation}
+use Rattle.records.specs.declared.Body.TheVariants.{Accusation}
 use Rattle.trace.specs.Written.{IsLineOf}
 use Rattle.trace.proofs.JustifiedLemmas.{among-tail, split}
 use Rattle.ports.specs.Outside.{OfDisk}
@@ -14,7 +14,8 @@ use Rattle.node_command.specs.declared.halt.NodeHalt.TheVariants as halt
 use Rattle.node_command.specs.declared.stay.Stay.{Stay}
 use Rattle.node_command.specs.Running.{NetInputs, Takes}
 use Rattle.node_command.specs.Spendings.{Spends}
-use Rattle.node_command.specs.Written.{AreWholeLines, IsGiven, LinesRest, event_line}
+use Rattle.node_command.specs.Written.{AreWholeLines, IsGiven, LinesRest}
+use Rattle.turn_rules.specs.Lines.{event_line}
 use Rattle.command_line.specs.Causes.{IsWritten, cause_line, status_of_node}
 use Rattle.command_line.specs.Ends.{RestsFed, Tells, NetState}
 use Rattle.command_line.specs.Journals.{JournalAnswers, JournalRests, JournalSends, NodeUpholds}
@@ -75,8 +76,7 @@ journal-answers : (feed : NetInputs) (was now : IoState) (old : OfDisk) → Wrot
 journal-answers feed was now old w = record {
   bytes = w.bytes;
   written = w.written;
-  notes = λ moment n of. w.rests moment (told.Took (Note n) None) of;
-  accusations = λ moment a of. w.rests moment (told.Took (Accusation a) None) of;
+  accepted = λ moment body of. w.rests moment (told.Took body None) of;
   own = λ moment index a of. w.rests moment (told.Spent index (Accusation a)) of;
   expiries = λ moment a of. w.rests moment (told.Expired a) of;
 }

@@ -2,18 +2,18 @@
 use Rattle.std.specs.Prelude.{◌≡◌, ℕ, List, Some, None, Result}
 use Rattle.std.specs.Io.KnownBytes.{Appends}
 use Rattle.ff_ids.specs.declared.AccBody.{AccBody}
-use Rattle.ff_ids.specs.declared.NoteBody.{NoteBody}
 use Rattle.journal.specs.declared.event.What.TheVariants as told
 use Rattle.play.specs.Plays.{IoState}
-use Rattle.records.specs.declared.Body.TheVariants.{Note, Accusation}
+use Rattle.records.specs.declared.Body.{Body}
+use Rattle.records.specs.declared.Body.TheVariants.{Accusation}
 use Rattle.trace.specs.Written.{IsLineOf}
 use Rattle.ports.specs.Outside.{OfDisk}
 use Rattle.node_command.specs.declared.halt.NodeHalt.{NodeHalt}
 use Rattle.node_command.specs.declared.stay.Stay.{Stay}
-use Rattle.node_command.specs.Removals.{removal_line}
-use Rattle.node_command.specs.Replies.{accepted_line, expiry_line, signed_line}
+use Rattle.turn_rules.specs.Removals.{removal_line}
+use Rattle.turn_rules.specs.Replies.{accepted_line, expiry_line, signed_line}
 use Rattle.node_command.specs.Running.{NetInputs}
-use Rattle.node_command.specs.Sendings.{sent_line}
+use Rattle.turn_rules.specs.Sendings.{sent_line}
 use Rattle.node_command.specs.Spendings.{Spends}
 use Rattle.node_command.specs.Written.{IsGiven}
 use Rattle.command_line.specs.Causes.{status_of_node}
@@ -30,8 +30,8 @@ pub record JournalRests (feed : NetInputs) (was now : IoState) (old : OfDisk) : 
   pub rests : (moment m : ℕ) → IsLineOf (removal_line moment m) bytes
       → IsGiven was old feed moment (told.Removed m)
 
--- Each whole line that was written and gives that a delivered note or accusation was accepted, or that an accusation expired: so it
--- was, at that moment, in the life that the run began. What was accepted had no fault there, and its record verifies. Of one that
+-- Each whole line that was written and gives that a delivered record was accepted, or that an accusation expired: so it was, at
+-- that moment, in the life that the run began. What was accepted had no fault there, and its record verifies. Of one that
 -- gives an index that is spent on an accusation a tick of the life has the moment and spends this index on it: the accusation is the
 -- node's own, and the accused was silent at that tick. No note that the life had accepted by then is of a later epoch than the
 -- accusation against its member; and where one answers it otherwise, it expires only where it was accepted again behind the note,
@@ -39,11 +39,8 @@ pub record JournalRests (feed : NetInputs) (was now : IoState) (old : OfDisk) : 
 pub record JournalAnswers (feed : NetInputs) (was now : IoState) (old : OfDisk) : Type 0 where
   pub bytes : List ℕ
   pub written : Appends was.taken now.taken bytes
-  pub notes : (moment : ℕ) (n : NoteBody) → IsLineOf (accepted_line moment (Note n)) bytes
-      → IsGiven was old feed moment (told.Took (Note n) None)
-  pub accusations : (moment : ℕ) (a : AccBody)
-      → IsLineOf (accepted_line moment (Accusation a)) bytes
-      → IsGiven was old feed moment (told.Took (Accusation a) None)
+  pub accepted : (moment : ℕ) (body : Body) → IsLineOf (accepted_line moment body) bytes
+      → IsGiven was old feed moment (told.Took body None)
   pub own : (moment index : ℕ) (a : AccBody) → IsLineOf (signed_line moment index a) bytes
       → IsGiven was old feed moment (told.Spent index (Accusation a))
   pub expiries : (moment : ℕ) (a : AccBody) → IsLineOf (expiry_line moment a) bytes

@@ -12,9 +12,9 @@ use Rattle.membership.proofs.HoldLemmas.{map_agree}
 use Rattle.detector.specs.declared.watch.Watched.{Watched}
 use Rattle.detector.specs.declared.probe.Ping.{Ping}
 use Rattle.detector.specs.declared.probe.Probe.{Probe}
-use Rattle.detector.specs.Silence.{History, Happening, Ticked, Ponged, live, kept, last_epoch, epoch_in, with_sent, with_answer, is_silent, silent, counts, nonce, sent_in, pings_from, pings, ticked, ponged}
+use Rattle.detector.specs.Silence.{History, Happening, Ticked, Ponged, live, kept, last_epoch, epoch_in, with_sent, with_answer, is_silent, silent, counts, nonce, sent_in, pings_from, pings, ticked, ticked_with, ponged, AreTo}
 use Rattle.detector.specs.Slots.{probe_in, blank, carried, carried_all, with_ping, with_pings, pings_with, nonce_of, after_nonce, after_nonces, at_nonce, probe_answered, answered_where, all_missed, probe_has}
-use Rattle.detector.specs.Kept.{Kept, StandsFor, slots_of, probe_after}
+use Rattle.detector.specs.Kept.{Kept, StandsFor, DrawsFor, slots_of, probe_after}
 use Rattle.detector.proofs.SlotLemmas.{take-slots, missed-judged, nonce-kept, answer_none, answered-slots}
 
 -- ---- what is carried over to the next tick
@@ -82,7 +82,7 @@ after-at seed k =
     ap (λ place. record { key = key_of seed; stream = 0; word_pos = place })
     (ap (λ place. (place + 1) % 2 ^ 68) (mod-add-mod (2 * k) (2 ^ 68) 1) ∙ mod-add-mod (2 * k + 1) (2 ^ 68) 1 ∙ ap (λ place. place % 2 ^ 68) (two_more k))
 
-one_each : (seed : List ℕ) (k : ℕ) (g : ChaCha) (h : History) (watched : List Watched) → g ≡ at_nonce seed k → pings_with g (map (carried_after h) watched) ≡ pings_from seed k watched
+one_each : (seed : List ℕ) (k : ℕ) (g : ChaCha) (h : History) (watched : List Watched) → g ≡ at_nonce seed k → pings_with g (map (carried_after h) watched) ≡ pings_from (nonce seed) k watched
 one_each seed k g h [] e = refl
 one_each seed k g h (w ∷ watched) e =
     ap (λ n. (w.member, n) ∷ pings_with (after_nonce g) (map (carried_after h) watched)) (ap nonce_of e ∙ nonce-at seed k)
@@ -91,33 +91,67 @@ one_each seed k g h (w ∷ watched) e =
 more_left : (k n : ℕ) → k + 1 + n ≡ k + suc n
 more_left k n = omega arith
 
-after-each : (seed : List ℕ) (k : ℕ) (g : ChaCha) (h : History) (watched : List Watched) → g ≡ at_nonce seed k → after_nonces g (map (carried_after h) watched) ≡ at_nonce seed (k + length (pings_from seed k watched))
+after-each : (seed : List ℕ) (k : ℕ) (g : ChaCha) (h : History) (watched : List Watched) → g ≡ at_nonce seed k → after_nonces g (map (carried_after h) watched) ≡ at_nonce seed (k + length (pings_from (nonce seed) k watched))
 after-each seed k g h [] e = e ∙ ap (at_nonce seed) (none_more k)
   where
     none_more : (k : ℕ) → k ≡ k + 0
     none_more k = omega arith
 after-each seed k g h (w ∷ watched) e =
-    after-each seed (k + 1) (after_nonce g) h watched (ap after_nonce e ∙ after-at seed k) ∙ ap (at_nonce seed) (more_left k (length (pings_from seed (k + 1) watched)))
+    after-each seed (k + 1) (after_nonce g) h watched (ap after_nonce e ∙ after-at seed k) ∙ ap (at_nonce seed) (more_left k (length (pings_from (nonce seed) (k + 1) watched)))
 
 -- The pings of a tick.
-pub pings-after : (k : Kept) (h : History) (watched : List Watched) (due : Bool) → StandsFor k h → cond due (pings_with k.words (carried_all k.probes watched)) [] ≡ pings h due watched
-pings-after k h watched false stands = refl
-pings-after k h watched true stands =
-    ap (pings_with k.words) (carried-after k h watched stands) ∙ one_each h.seed (sent_in h.happened) k.words h watched stands.words_next
+abbrev pub sent_by : Kept → Bool → List Watched → List (ℕ × ℕ)
+sent_by k due watched = cond due (pings_with k.words (carried_all k.probes watched)) []
+
+-- They go to those watched.
+found_probe : (m : ℕ) (probes : List Probe) (p : Probe) → probe_in probes m ≡ Some p → p.member ≡ m
+found_probe m [] p h = cc
+found_probe m (x ∷ probes) p h = found_more m (eqb x.member m) x p (probe_in probes m) (eqb-true x.member m) (found_probe m probes p) h
+  where
+    found_more : (m : ℕ) (b : Bool) (x p : Probe) (rest : Option Probe) → (b ≡ true → x.member ≡ m) → (rest ≡ Some p → p.member ≡ m) → cond b (Some x) rest ≡ Some p → p.member ≡ m
+    found_more m true x p rest here there h = let e : x ≡ p = cc in subst (λ (p : Probe). p.member ≡ m) e (here refl)
+    found_more m false x p rest here there h = there h
+
+carried_to : (probes : List Probe) (w : Watched) (o : Option Probe) → probe_in probes w.member ≡ o → (carried o w).member ≡ w.member
+carried_to probes w None e = refl
+carried_to probes w (Some p) e = either (eqb p.epoch w.epoch) p w (found_probe w.member probes p e)
+  where
+    either : (b : Bool) (p : Probe) (w : Watched) → p.member ≡ w.member → (cond b p (blank w)).member ≡ w.member
+    either true p w e = e
+    either false p w e = refl
+
+sent_to : (g : ChaCha) (probes : List Probe) (watched : List Watched) → map (λ (p : ℕ × ℕ). p.0) (pings_with g (carried_all probes watched)) ≡ map (λ (w : Watched). w.member) watched
+sent_to g probes [] = refl
+sent_to g probes (w ∷ watched) =
+    ap (λ m. m ∷ map (λ (p : ℕ × ℕ). p.0) (pings_with (after_nonce g) (carried_all probes watched))) (carried_to probes w (probe_in probes w.member) refl)
+    ∙ ap (λ ms. w.member ∷ ms) (sent_to (after_nonce g) probes watched)
+
+pub sent-to : (k : Kept) (due : Bool) (watched : List Watched) → AreTo (cond due watched []) (sent_by k due watched)
+sent-to k true watched = sent_to k.words k.probes watched
+sent-to k false watched = refl
+
+-- Their nonces are the next ones of the seed.
+pub pings-after : (k : Kept) (h : History) (watched : List Watched) (due : Bool) → DrawsFor k h → sent_by k due watched ≡ pings h due watched
+pings-after k h watched false draws = refl
+pings-after k h watched true draws =
+    ap (pings_with k.words) (carried-after k h watched draws.stands)
+    ∙ one_each draws.seed (sent_in h.happened) k.words h watched draws.words_next
+    ∙ ap (λ (nonces : ℕ → ℕ). pings_from nonces (sent_in h.happened) watched) (sym draws.source)
 
 sum_back : (k n : ℕ) → k + n ≡ n + k
 sum_back k n = omega arith
 
 -- The generator after it.
-pub words-after : (k : Kept) (h : History) (watched : List Watched) (due : Bool) → StandsFor k h → cond due (after_nonces k.words (carried_all k.probes watched)) k.words ≡ at_nonce h.seed (sent_in (ticked h due watched).happened)
-words-after k h watched false stands = stands.words_next ∙ ap (at_nonce h.seed) (none_before (sent_in h.happened))
+words-after : (k : Kept) (h : History) (watched : List Watched) (due : Bool) (draws : DrawsFor k h) → cond due (after_nonces k.words (carried_all k.probes watched)) k.words ≡ at_nonce draws.seed (sent_in (ticked h due watched).happened)
+words-after k h watched false draws = draws.words_next ∙ ap (at_nonce draws.seed) (none_before (sent_in h.happened))
   where
     none_before : (n : ℕ) → n ≡ 0 + n
     none_before n = omega arith
-words-after k h watched true stands =
-    ap (after_nonces k.words) (carried-after k h watched stands)
-    ∙ after-each h.seed (sent_in h.happened) k.words h watched stands.words_next
-    ∙ ap (at_nonce h.seed) (sum_back (sent_in h.happened) (length (pings_from h.seed (sent_in h.happened) watched)))
+words-after k h watched true draws =
+    ap (after_nonces k.words) (carried-after k h watched draws.stands)
+    ∙ after-each draws.seed (sent_in h.happened) k.words h watched draws.words_next
+    ∙ ap (λ (nonces : ℕ → ℕ). at_nonce draws.seed (sent_in h.happened + length (pings_from nonces (sent_in h.happened) watched))) (sym draws.source)
+    ∙ ap (at_nonce draws.seed) (sum_back (sent_in h.happened) (length (pings_from h.nonces (sent_in h.happened) watched)))
 
 -- ---- what is kept after a tick
 
@@ -140,12 +174,12 @@ probe_here m n b x ps w h sent watched e same is =
 probe_later : (m n : ℕ) (b : Bool) (x : Probe) (ps : List Probe) (w : Watched) (h : History) (sent : List (ℕ × ℕ)) (watched : List Watched) → b ≡ false → probe_in ps m ≡ option_map (kept_with m (live_with h m sent)) (epoch_in watched m) → cond b (Some x) (probe_in ps m) ≡ option_map (kept_with m (λ epoch. with_sent (cond b (Some (w.member, n)) (find (λ p. eqb p.0 m) sent)) (live h.misses h.happened m epoch))) (option_map (λ (w : Watched). w.epoch) (cond b (Some w) (find (λ w. eqb w.member m) watched)))
 probe_later m n b x ps w h sent watched e rest = rw e rest
 
-pinged-each : (seed : List ℕ) (k : ℕ) (g : ChaCha) (h : History) (m : ℕ) (watched : List Watched) → g ≡ at_nonce seed k → probe_in (with_pings g (map (carried_after h) watched)) m ≡ option_map (kept_with m (live_with h m (pings_from seed k watched))) (epoch_in watched m)
-pinged-each seed k g h m [] e = refl
-pinged-each seed k g h m (w ∷ watched) e =
+pinged-each : (g : ChaCha) (h : History) (m : ℕ) (watched : List Watched) → probe_in (with_pings g (map (carried_after h) watched)) m ≡ option_map (kept_with m (live_with h m (pings_with g (map (carried_after h) watched)))) (epoch_in watched m)
+pinged-each g h m [] = refl
+pinged-each g h m (w ∷ watched) =
     ⊎_elim
-    (λ t. probe_here m (nonce seed k) (eqb w.member m) (with_ping (nonce_of g) (carried_after h w)) _ w h _ watched t (eqb-true w.member m t) (ap (λ n. with_ping n (carried_after h w)) (ap nonce_of e ∙ nonce-at seed k)))
-    (λ t. probe_later m (nonce seed k) (eqb w.member m) (with_ping (nonce_of g) (carried_after h w)) _ w h _ watched t (pinged-each seed (k + 1) (after_nonce g) h m watched (ap after_nonce e ∙ after-at seed k)))
+    (λ t. probe_here m (nonce_of g) (eqb w.member m) (with_ping (nonce_of g) (carried_after h w)) _ w h _ watched t (eqb-true w.member m t) refl)
+    (λ t. probe_later m (nonce_of g) (eqb w.member m) (with_ping (nonce_of g) (carried_after h w)) _ w h _ watched t (pinged-each (after_nonce g) h m watched))
     (either_bool (eqb w.member m))
 
 unpinged_more : (m : ℕ) (b : Bool) (ps : List Probe) (w : Watched) (h : History) (watched : List Watched) → (b ≡ true → w.member ≡ m) → probe_in ps m ≡ option_map (kept_with m (live h.misses h.happened m)) (epoch_in watched m) → cond b (Some (carried_after h w)) (probe_in ps m) ≡ option_map (kept_with m (live h.misses h.happened m)) (option_map (λ (w : Watched). w.epoch) (cond b (Some w) (find (λ w. eqb w.member m) watched)))
@@ -156,10 +190,13 @@ unpinged-each : (h : History) (m : ℕ) (watched : List Watched) → probe_in (m
 unpinged-each h m [] = refl
 unpinged-each h m (w ∷ watched) = unpinged_more m (eqb w.member m) _ w h watched (eqb-true w.member m) (unpinged-each h m watched)
 
-kept-after : (k : Kept) (h : History) (watched : List Watched) (due : Bool) (m : ℕ) → StandsFor k h → probe_in (cond due (with_pings k.words (carried_all k.probes watched)) (carried_all k.probes watched)) m ≡ option_map (kept_with m (live_with h m (pings h due watched))) (epoch_in watched m)
+kept-after : (k : Kept) (h : History) (watched : List Watched) (due : Bool) (m : ℕ) → StandsFor k h → probe_in (cond due (with_pings k.words (carried_all k.probes watched)) (carried_all k.probes watched)) m ≡ option_map (kept_with m (live_with h m (sent_by k due watched))) (epoch_in watched m)
 kept-after k h watched false m stands = ap (λ ps. probe_in ps m) (carried-after k h watched stands) ∙ unpinged-each h m watched
 kept-after k h watched true m stands =
-    ap (λ ps. probe_in (with_pings k.words ps) m) (carried-after k h watched stands) ∙ pinged-each h.seed (sent_in h.happened) k.words h m watched stands.words_next
+    let carried = carried-after k h watched stands in
+    ap (λ ps. probe_in (with_pings k.words ps) m) carried
+    ∙ pinged-each k.words h m watched
+    ∙ ap (λ (ps : List Probe). option_map (kept_with m (live_with h m (pings_with k.words ps))) (epoch_in watched m)) (sym carried)
 
 -- What is kept after a tick.
 abbrev pub kept_ticked : Kept → Bool → List Watched → Kept
@@ -170,12 +207,17 @@ kept_ticked k due watched =
       probes = cond due (with_pings k.words (carried_all k.probes watched)) (carried_all k.probes watched);
     }
 
-pub stands-ticked : (k : Kept) (h : History) (watched : List Watched) (due : Bool) → StandsFor k h → StandsFor (kept_ticked k due watched) (ticked h due watched)
+pub stands-ticked : (k : Kept) (h : History) (watched : List Watched) (due : Bool) → StandsFor k h → StandsFor (kept_ticked k due watched) (ticked_with h watched (sent_by k due watched))
 stands-ticked k h watched due stands =
+    record { misses_same = stands.misses_same; each = λ m. kept-after k h watched due m stands ∙ sym (watched_then m (live_with h m (sent_by k due watched)) (epoch_in watched m)) }
+
+pub draws-ticked : (k : Kept) (h : History) (watched : List Watched) (due : Bool) → DrawsFor k h → DrawsFor (kept_ticked k due watched) (ticked h due watched)
+draws-ticked k h watched due draws =
     record {
-      misses_same = stands.misses_same;
-      words_next = words-after k h watched due stands;
-      each = λ m. kept-after k h watched due m stands ∙ sym (watched_then m (live_with h m (pings h due watched)) (epoch_in watched m));
+      stands = subst (λ (sent : List (ℕ × ℕ)). StandsFor (kept_ticked k due watched) (ticked_with h watched sent)) (pings-after k h watched due draws) (stands-ticked k h watched due draws.stands);
+      seed = draws.seed;
+      source = draws.source;
+      words_next = words-after k h watched due draws;
     }
 
 -- ---- a pong
@@ -194,14 +236,14 @@ answered_member : (b : Bool) (misses nonce : ℕ) (p : Probe) → (cond b (probe
 answered_member true misses nonce p = refl
 answered_member false misses nonce p = refl
 
-find_more : (b c : Bool) (f : Probe → Probe) (p : Probe) (o q : Option Probe) → b ≡ c → o ≡ option_map f q → cond b (Some (f p)) o ≡ option_map f (cond c (Some p) q)
-find_more true c f p o q e rest = rw (← e) refl
-find_more false c f p o q e rest = rw (← e) rest
+pub find-more : {X : Type 0} (b c : Bool) (f : X → X) (p : X) (o q : Option X) → b ≡ c → o ≡ option_map f q → cond b (Some (f p)) o ≡ option_map f (cond c (Some p) q)
+find-more true c f p o q e rest = rw (← e) refl
+find-more false c f p o q e rest = rw (← e) rest
 
 probe_in-answered : (misses sender nonce m : ℕ) (probes : List Probe) → probe_in (map (answered_where misses sender nonce) probes) m ≡ option_map (answered_where misses sender nonce) (probe_in probes m)
 probe_in-answered misses sender nonce m [] = refl
 probe_in-answered misses sender nonce m (p ∷ probes) =
-    find_more _ (eqb p.member m) (answered_where misses sender nonce) p _ _ (ap (λ n. eqb n m) (answered_member (eqb p.member sender) misses nonce p)) (probe_in-answered misses sender nonce m probes)
+    find-more _ (eqb p.member m) (answered_where misses sender nonce) p _ _ (ap (λ n. eqb n m) (answered_member (eqb p.member sender) misses nonce p)) (probe_in-answered misses sender nonce m probes)
 
 answered_after : (b : Bool) (h : History) (nonce m epoch : ℕ) → cond b (probe_answered h.misses nonce (probe_after h m epoch)) (probe_after h m epoch) ≡ kept_with m (λ epoch. cond b (with_answer h.misses nonce (live h.misses h.happened m epoch)) (live h.misses h.happened m epoch)) epoch
 answered_after true h nonce m epoch =
@@ -216,9 +258,11 @@ pub stands-ponged : (k : Kept) (h : History) (sender nonce : ℕ) → StandsFor 
 stands-ponged k h sender nonce stands =
     record {
       misses_same = stands.misses_same;
-      words_next = stands.words_next;
       each = λ m. probe_in-answered k.group.misses sender nonce m k.probes ∙ ap (option_map (answered_where k.group.misses sender nonce)) (stands.each m) ∙ ap (λ misses. option_map (answered_where misses sender nonce) (option_map (probe_after h m) (last_epoch h.happened m))) (sym stands.misses_same) ∙ answered_by_pong h sender nonce m (last_epoch h.happened m);
     }
+
+pub draws-ponged : (k : Kept) (h : History) (sender nonce : ℕ) → DrawsFor k h → DrawsFor (record k { probes = map (answered_where k.group.misses sender nonce) k.probes }) (ponged h sender nonce)
+draws-ponged k h sender nonce draws = record { stands = stands-ponged k h sender nonce draws.stands; seed = draws.seed; source = draws.source; words_next = draws.words_next }
 
 -- ---- a pong that does not count
 
@@ -249,8 +293,7 @@ probe_unheard h sender nonce m (Some epoch) e unheard =
 -- What is kept stands for the history with a pong that does not count, as it is.
 pub stands-unheard : (k : Kept) (h : History) (sender nonce : ℕ) → StandsFor k h → counts h sender nonce ≡ false → StandsFor k (ponged h sender nonce)
 stands-unheard k h sender nonce stands unheard =
-    record {
-      misses_same = stands.misses_same;
-      words_next = stands.words_next;
-      each = λ m. stands.each m ∙ probe_unheard h sender nonce m (last_epoch h.happened m) refl unheard;
-    }
+    record { misses_same = stands.misses_same; each = λ m. stands.each m ∙ probe_unheard h sender nonce m (last_epoch h.happened m) refl unheard }
+
+pub draws-unheard : (k : Kept) (h : History) (sender nonce : ℕ) → DrawsFor k h → counts h sender nonce ≡ false → DrawsFor k (ponged h sender nonce)
+draws-unheard k h sender nonce draws unheard = record { stands = stands-unheard k h sender nonce draws.stands unheard; seed = draws.seed; source = draws.source; words_next = draws.words_next }

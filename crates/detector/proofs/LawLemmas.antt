@@ -31,7 +31,7 @@ live_now watched pings before m epoch nonce was sent =
     record { watched = watched; pings = pings; before = before; parts = refl; sent = sent; at_sending = was; at_each = All-nil (WasWatched m epoch) }
 
 -- The ping that was found is one to m.
-found_to : (m : ℕ) (pings : List (ℕ × ℕ)) (p : ℕ × ℕ) → find (λ p. eqb p.0 m) pings ≡ Some p → p.0 ≡ m
+pub found_to : (m : ℕ) (pings : List (ℕ × ℕ)) (p : ℕ × ℕ) → find (λ p. eqb p.0 m) pings ≡ Some p → p.0 ≡ m
 found_to m [] p h = cc
 found_to m (x ∷ pings) p h = found_more m (eqb x.0 m) x p (find (λ p. eqb p.0 m) pings) (eqb-true x.0 m) (found_to m pings p) h
   where

@@ -1,5 +1,5 @@
 -- The rules at work: worked lives, computed from the definitions alone.
-use Rattle.std.proofs.Common.{◌≡◌, ℕ, true, false, List, [], ◌∷◌, refl, replicate}
+use Rattle.std.proofs.Common.{◌≡◌, ℕ, Bool, true, false, List, [], ◌∷◌, Option, Some, None, refl, replicate}
 use Rattle.ff_ids.specs.declared.Group.{Group}
 use Rattle.ff_ids.specs.Views.{State, all_numbers, in_view_by}
 use Rattle.ff_ids.specs.Steps.{Event, Joins, Notes}
@@ -7,7 +7,10 @@ use Rattle.ff_ids.specs.Lives as lives
 use Rattle.rand_core.specs.Steps.{u32_at}
 use Rattle.rand_chacha.specs.Block.{block_word, double_rounds, diagonal_round, quarter_round, column_round}
 use Rattle.detector.specs.declared.watch.Watched.{Watched}
-use Rattle.detector.specs.Silence.{Happening, Ticked, Ponged, History, silent, counts, nonce, pings}
+use Rattle.detector.specs.declared.probe.Ping.{Ping}
+use Rattle.detector.specs.declared.probe.Probe.{Probe}
+use Rattle.detector.specs.Slots.{nonced_where}
+use Rattle.detector.specs.Silence.{Happening, Ticked, Ponged, History, silent, counts, nonce, pings, with_nonce, with_nonces}
 use Rattle.detector.specs.Watching.{watched}
 
 -- The first nonce of the seed of zeros is the first eight bytes of that key stream, each word read low byte first.
@@ -17,7 +20,7 @@ first_nonce = refl
 
 -- Two pings in a row make a member silent.
 abbrev life : List Happening → History
-life happened = record { misses = 2; seed = []; happened = happened }
+life happened = record { misses = 2; nonces = nonce []; happened = happened }
 
 abbrev at : ℕ → ℕ → Watched
 at m epoch = record { member = m; epoch = epoch }
@@ -62,6 +65,29 @@ not_due = (refl, refl, refl, refl, refl)
 -- The pings of a due tick take the nonces on from those sent before.
 next_nonces : (pings (life twice) true both ≡ (4, nonce [] 4) ∷ (9, nonce [] 5) ∷ []) × (pings (life twice) false both ≡ [])
 next_nonces = (refl, refl)
+
+-- Nonces that are learned behind a tick: each ping has its own, and a pong with one that was drawn counts no more.
+abbrev learned : List (ℕ × ℕ)
+learned = with_nonces ((4, 20) ∷ (9, 21) ∷ []) ((4, 12) ∷ (9, 13) ∷ [])
+
+learned_behind : (with_nonce 9 21 ((4, 12) ∷ (9, 13) ∷ []) ≡ (4, 12) ∷ (9, 21) ∷ [])
+    × (learned ≡ (4, 20) ∷ (9, 21) ∷ [])
+    × (counts (life (Ticked both learned ∷ [])) 4 20 ≡ true)
+    × (counts (life (Ticked both learned ∷ [])) 4 12 ≡ false)
+    × (silent (life (Ponged 9 21 ∷ Ticked both learned ∷ Ticked both ((4, 10) ∷ (9, 11) ∷ []) ∷ [])) both ≡ 4 ∷ [])
+learned_behind = (refl, refl, refl, refl, refl)
+
+-- Of what is kept of a member its latest ping has it, and is answered as it was.
+abbrev ping : ℕ → Bool → Option Ping
+ping nonce answered = Some (record { nonce = nonce; answered = answered })
+
+abbrev probe : ℕ → List (Option Ping) → Probe
+probe m slots = record { member = m; epoch = 1; slots = slots }
+
+latest_ping : (nonced_where 4 20 (probe 4 (ping 12 true ∷ ping 10 false ∷ None ∷ [])) ≡ probe 4 (ping 20 true ∷ ping 10 false ∷ None ∷ []))
+    × (nonced_where 4 20 (probe 9 (ping 13 false ∷ [])) ≡ probe 9 (ping 13 false ∷ []))
+    × (nonced_where 4 20 (probe 4 (None ∷ ping 10 false ∷ [])) ≡ probe 4 (None ∷ ping 10 false ∷ []))
+latest_ping = (refl, refl, refl)
 
 -- Members 1, 2 and 3 in this order on each ring: 1 watches 2, and 2 watches 3.
 abbrev group : Group

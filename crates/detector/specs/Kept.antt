@@ -7,7 +7,7 @@ use Rattle.rand_chacha.specs.ChaCha.{ChaCha}
 use Rattle.detector.specs.declared.watch.TheConstants.{WATCHED}
 use Rattle.detector.specs.declared.probe.Ping.{Ping}
 use Rattle.detector.specs.declared.probe.Probe.{Probe}
-use Rattle.detector.specs.Silence.{History, live, last_epoch, sent_in}
+use Rattle.detector.specs.Silence.{History, live, last_epoch, nonce, sent_in}
 use Rattle.detector.specs.Slots.{probe_in, at_nonce}
 
 -- What is kept: the group, the generator of the nonces, and of each member that was watched at the last tick its pings.
@@ -26,11 +26,17 @@ slots_of (suc n) (p ∷ pings) = Some p ∷ slots_of n pings
 abbrev pub probe_after : History → ℕ → ℕ → Probe
 probe_after h m epoch = record { member = m; epoch = epoch; slots = slots_of 16 (live h.misses h.happened m epoch) }
 
--- What is kept stands for the history.
+-- What is kept stands for the history, wherever its nonces come from.
 pub record StandsFor (k : Kept) (h : History) : Type 0 where
   pub misses_same : h.misses ≡ k.group.misses
-  pub words_next : k.words ≡ at_nonce h.seed (sent_in h.happened)
   pub each : (m : ℕ) → probe_in k.probes m ≡ option_map (probe_after h m) (last_epoch h.happened m)
+
+-- It stands for the history, whose nonces are those of a seed, and the generator has the next of these.
+pub record DrawsFor (k : Kept) (h : History) : Type 0 where
+  pub stands : StandsFor k h
+  pub seed : List ℕ
+  pub source : h.nonces ≡ nonce seed
+  pub words_next : k.words ≡ at_nonce seed (sent_in h.happened)
 
 -- Few rings, few misses, and room for whoever is watched.
 pub record IsReady (group : Group) (watched probes spare : ℕ) : Type 0 where

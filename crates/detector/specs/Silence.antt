@@ -1,5 +1,5 @@
 -- A life's probes: the pings that are kept and judged, the pongs that answer them, and who is silent.
-use Rattle.std.specs.Prelude.{ℕ, ◌+◌, ◌*◌, ◌%◌, ◌^◌, Bool, true, false, ◌&&◌, not, ◌==◌, if◌then◌else◌, List, [], ◌∷◌, ◌++◌, Option, Some, None, map, filter, find, take, drop, length}
+use Rattle.std.specs.Prelude.{◌≡◌, ℕ, ◌+◌, ◌*◌, ◌%◌, ◌^◌, Bool, true, false, ◌&&◌, not, ◌==◌, if◌then◌else◌, List, [], ◌∷◌, ◌++◌, Option, Some, None, map, filter, find, take, drop, length}
 use Rattle.std.specs.List.{list_all, list_any}
 use Rattle.std.specs.Option.{option_map, option_map_or}
 use Rattle.ff_ids.specs.declared.Group.{Group}
@@ -14,14 +14,15 @@ pub data Happening : Type 0 where
   Ticked : (watched : List Watched) (pings : List (ℕ × ℕ)) → Happening
   Ponged : (sender nonce : ℕ) → Happening
 
--- How many pings in a row make a member silent, the seed of the nonces, and what has happened, the latest first.
+-- How many pings in a row make a member silent, the source of the nonces, which has one for each number from 0, and what
+-- has happened, the latest first.
 pub record History : Type 0 where
   pub misses : ℕ
-  pub seed : List ℕ
+  pub nonces : ℕ → ℕ
   pub happened : List Happening
 
-abbrev pub opening : Group → List ℕ → History
-opening group seed = record { misses = group.misses; seed = seed; happened = [] }
+abbrev pub opening : Group → (ℕ → ℕ) → History
+opening group nonces = record { misses = group.misses; nonces = nonces; happened = [] }
 
 -- The epoch of the newest note with which m is among the watched.
 abbrev pub epoch_in : List Watched → ℕ → Option ℕ
@@ -78,7 +79,7 @@ silent h watched = map (λ w. w.member) (filter (is_silent h) watched)
 abbrev pub word : List ℕ → ℕ → ℕ
 word seed place = word_at 10 (key_of seed) 0 (place % 2 ^ 68)
 
--- The nonces of a life, from 0: each is two words, the upper one first.
+-- The source of a seed: each of its nonces, from 0, is two words, the upper one first.
 unfoldable pub nonce : List ℕ → ℕ → ℕ
 nonce seed k = word seed (2 * k) * 2 ^ 32 + word seed (2 * k + 1)
 
@@ -88,17 +89,39 @@ sent_in [] = 0
 sent_in (Ponged sender nonce ∷ before) = sent_in before
 sent_in (Ticked watched pings ∷ before) = length pings + sent_in before
 
--- One ping to each with the next nonces, of which the first is the k-th.
-abbrev pub pings_from : List ℕ → ℕ → List Watched → List (ℕ × ℕ)
-pings_from seed k [] = []
-pings_from seed k (w ∷ watched) = (w.member, nonce seed k) ∷ pings_from seed (k + 1) watched
+-- One ping to each with the next nonces of a source, of which the first is the k-th.
+abbrev pub pings_from : (ℕ → ℕ) → ℕ → List Watched → List (ℕ × ℕ)
+pings_from nonces k [] = []
+pings_from nonces k (w ∷ watched) = (w.member, nonces k) ∷ pings_from nonces (k + 1) watched
 
 -- The pings of the next tick, at which these are watched: where it is due, one to each.
 abbrev pub pings : History → Bool → List Watched → List (ℕ × ℕ)
-pings h due watched = if due then pings_from h.seed (sent_in h.happened) watched else []
+pings h due watched = if due then pings_from h.nonces (sent_in h.happened) watched else []
+
+-- A tick at which these were watched and these pings were sent, whatever their nonces.
+abbrev pub ticked_with : History → List Watched → List (ℕ × ℕ) → History
+ticked_with h watched sent = record h { happened = Ticked watched sent ∷ h.happened }
 
 abbrev pub ticked : History → Bool → List Watched → History
-ticked h due watched = record h { happened = Ticked watched (pings h due watched) ∷ h.happened }
+ticked h due watched = ticked_with h watched (pings h due watched)
 
 abbrev pub ponged : History → ℕ → ℕ → History
 ponged h sender nonce = record h { happened = Ponged sender nonce ∷ h.happened }
+
+-- One ping to each of these, in order.
+abbrev pub AreTo : List Watched → List (ℕ × ℕ) → Type 0
+AreTo watched sent = map (λ p. p.0) sent ≡ map (λ w. w.member) watched
+
+-- ---- pings whose nonces are learned behind their tick
+
+abbrev pub is_pinged : ℕ → List (ℕ × ℕ) → Bool
+is_pinged m sent = list_any (λ p. p.0 == m) sent
+
+-- The pings, of which that to m has this nonce.
+abbrev pub with_nonce : ℕ → ℕ → List (ℕ × ℕ) → List (ℕ × ℕ)
+with_nonce m nonce sent = map (λ p. if p.0 == m then (p.0, nonce) else p) sent
+
+-- The pings, of which those to the members of these have their nonces, one after the other.
+abbrev pub with_nonces : List (ℕ × ℕ) → List (ℕ × ℕ) → List (ℕ × ℕ)
+with_nonces [] sent = sent
+with_nonces (p ∷ learned) sent = with_nonces learned (with_nonce p.0 p.1 sent)

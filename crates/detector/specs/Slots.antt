@@ -38,6 +38,21 @@ probe_has misses nonce p = list_any (has_nonce nonce) (take misses p.slots)
 abbrev pub probe_answered : ℕ → ℕ → Probe → Probe
 probe_answered misses nonce p = record p { slots = map (slot_answered nonce) (take misses p.slots) ++ drop misses p.slots }
 
+-- The ping with this nonce, answered as it was.
+abbrev pub ping_nonced : ℕ → Ping → Ping
+ping_nonced nonce p = record p { nonce = nonce }
+
+abbrev pub slot_nonced : ℕ → Option Ping → Option Ping
+slot_nonced nonce slot = option_map (ping_nonced nonce) slot
+
+-- The latest ping, if there is one, with this nonce.
+abbrev pub first_nonced : ℕ → List (Option Ping) → List (Option Ping)
+first_nonced nonce [] = []
+first_nonced nonce (slot ∷ slots) = slot_nonced nonce slot ∷ slots
+
+abbrev pub probe_nonced : ℕ → Probe → Probe
+probe_nonced nonce p = record p { slots = first_nonced nonce p.slots }
+
 -- ---- all members
 
 abbrev pub probe_in : List Probe → ℕ → Option Probe
@@ -53,6 +68,9 @@ carried_all probes watched = map (λ w. carried (probe_in probes w.member) w) wa
 
 abbrev pub answered_where : ℕ → ℕ → ℕ → Probe → Probe
 answered_where misses sender nonce p = if p.member == sender then probe_answered misses nonce p else p
+
+abbrev pub nonced_where : ℕ → ℕ → Probe → Probe
+nonced_where m nonce p = if p.member == m then probe_nonced nonce p else p
 
 -- ---- nonces
 

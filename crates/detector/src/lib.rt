@@ -3,14 +3,16 @@
 //! of which far less is kept. After opening no call takes memory. `node_core` calls it.
 #![tactic(auto)]
 
-ghost use Rattle.std.specs.Prelude.{◌≡◌, ◌≤◌, true, false, IfOk};
+ghost use Rattle.std.specs.Prelude.{◌≡◌, ◌≤◌, ℕ, List, [], true, false, if◌then◌else◌, map, IfOk};
 ghost use Rattle.ff_ids.specs.declared.TheConstants.{MAX_TOLERANCE};
 ghost use Rattle.ff_ids.specs.Views.{State};
 ghost use Rattle.membership.specs.Life.{has_joined};
 ghost use Rattle.membership.specs.Holds.{Holds};
-ghost use Rattle.detector.specs.Silence.{History, opening, silent as silent_at, pings as pings_at, counts, ticked, ponged};
+ghost use Rattle.detector.specs.Silence.{History, opening, nonce as nonce_of, silent as silent_at, pings as pings_at, counts, ticked, ticked_with, ponged, AreTo, is_pinged, with_nonce};
 ghost use Rattle.detector.specs.Watching.{watched as watched_in};
-ghost use Rattle.detector.specs.Kept.{StandsFor};
+ghost use Rattle.detector.specs.declared.watch.Watched.{Watched as Watching};
+ghost use Rattle.detector.specs.Slots.{nonced_where};
+ghost use Rattle.detector.specs.Kept.{StandsFor, DrawsFor};
 
 mod found;
 pub mod laws;
@@ -21,7 +23,7 @@ use ff_ids::{Group, MemberId};
 use fields::NoMemory;
 pub use found::Found;
 use membership::Membership;
-use probe::{Probe, answer_all, carry_all, has_kept};
+use probe::{Probe, answer_all, carry_all, has_kept, renonce_all};
 use rand_chacha::ChaCha20Rng;
 use rand_core::SeedableRng;
 use std::alloc::Global;
@@ -29,8 +31,8 @@ use std::marker::Model;
 use std::mem::swap;
 use watch::{WATCHED, Watched, watch_all};
 
-/// Finds the silent among those that one member watches. Contracts see what is kept of the life; which histories
-/// that may stand for is said by `StandsFor`.
+/// Finds the silent among those that one member watches. Contracts see what is kept of the life. Which histories that
+/// may stand for, with nonces of any source, is said by `StandsFor`; `DrawsFor` says that they are those of a seed.
 #[derive(Drop)]
 pub struct Detector {
     group: Group,
@@ -61,7 +63,7 @@ impl Detector {
         requires rings { group.now.t ≤ MAX_TOLERANCE }
         requires misses { group.now.misses ≤ 16 }
         ensures group { IfOk result (λ d. d.group ≡ group.now) }
-        ensures holds { IfOk result (λ d. StandsFor d (opening group.now seed)) }
+        ensures holds { IfOk result (λ d. DrawsFor d (opening group.now (nonce_of seed))) }
     {
         Ok(Detector {
             group: *group,
@@ -81,10 +83,15 @@ impl Detector {
         requires joined { has_joined membership.now me ≡ true }
         ensures silent { (h : History) (s : State) → StandsFor self.old h → Holds membership.now s
             → out.new.silent ≡ silent_at h (watched_in self.old.group.t s me) }
-        ensures pings { (h : History) (s : State) → StandsFor self.old h → Holds membership.now s
+        ensures to { (s : State) → Holds membership.now s
+            → AreTo (if due then watched_in self.old.group.t s me else []) out.new.pings }
+        ensures stands { (h : History) (s : State) → StandsFor self.old h → Holds membership.now s
+            → StandsFor self.new
+            (ticked_with h (watched_in self.old.group.t s me) out.new.pings) }
+        ensures pings { (h : History) (s : State) → DrawsFor self.old h → Holds membership.now s
             → out.new.pings ≡ pings_at h due (watched_in self.old.group.t s me) }
-        ensures holds { (h : History) (s : State) → StandsFor self.old h → Holds membership.now s
-            → StandsFor self.new (ticked h due (watched_in self.old.group.t s me)) }
+        ensures holds { (h : History) (s : State) → DrawsFor self.old h → Holds membership.now s
+            → DrawsFor self.new (ticked h due (watched_in self.old.group.t s me)) }
         ensures group { self.new.group ≡ self.old.group }
     {
         watch_all(membership, me, &mut self.near, &mut self.watched);
@@ -98,8 +105,10 @@ impl Detector {
     /// pong that comes again counts again while its ping is kept. One that doesn't count changes nothing.
     pub fn pong(&mut self, from: MemberId, nonce: u64) -> bool
         ensures value { (h : History) → StandsFor self.old h → result ≡ counts h from nonce }
-        ensures holds { (h : History) → StandsFor self.old h
+        ensures stands { (h : History) → StandsFor self.old h
             → StandsFor self.new (ponged h from nonce) }
+        ensures holds { (h : History) → DrawsFor self.old h
+            → DrawsFor self.new (ponged h from nonce) }
         ensures same { result ≡ false → self.new ≡ self.old }
         ensures group { self.new.group ≡ self.old.group }
     {
@@ -108,5 +117,19 @@ impl Detector {
         }
         answer_all(&mut self.probes, self.group.misses, from, nonce);
         true
+    }
+
+    /// Gives the latest ping to a member this nonce, in place of the one that was drawn at its tick: for a caller who
+    /// learns behind the tick which nonces were sent. Where no ping to the member is kept, nothing changes. Nor do the
+    /// nonces to come, which go on from those that were drawn.
+    pub fn renonce(&mut self, to: MemberId, nonce: u64)
+        ensures kept { self.new
+            ≡ record self.old { probes = map (nonced_where to nonce) self.old.probes } }
+        ensures stands { (h : History) (watched : List Watching) (sent : List (ℕ × ℕ))
+            → is_pinged to sent ≡ true
+            → StandsFor self.old (ticked_with h watched sent)
+            → StandsFor self.new (ticked_with h watched (with_nonce to nonce sent)) }
+    {
+        renonce_all(&mut self.probes, to, nonce);
     }
 }

@@ -2,7 +2,7 @@
 
 ghost use Rattle.std.specs.Prelude.{◌≡◌, ◌≤◌, [], ◌∷◌, false, Some, take, if◌then◌else◌, map, filter, length, vec_capacity};
 ghost use Rattle.std.specs.Option.{option_map_or};
-ghost use Rattle.detector.specs.Slots.{slot_answered, is_missed as slot_is_missed, has_nonce, probe_in, blank, carried, carried_all, with_ping, with_pings, pings_with, nonce_of, after_nonce, after_nonces, probe_answered, answered_where, all_missed, probe_has};
+ghost use Rattle.detector.specs.Slots.{slot_answered, is_missed as slot_is_missed, has_nonce, probe_in, blank, carried, carried_all, with_ping, with_pings, pings_with, nonce_of, after_nonce, after_nonces, probe_answered, answered_where, all_missed, probe_has, slot_nonced, probe_nonced, nonced_where};
 
 use crate::watch::Watched;
 use ff_ids::{Epoch, MemberId};
@@ -64,6 +64,15 @@ fn answer_slots(slots: &mut [Option<Ping>], nonce: u64)
 {
     for slot in slots.iter_mut() {
         answer_slot(slot, nonce);
+    }
+}
+
+/// Gives the ping this nonce, if there is one.
+fn set_nonce(slot: &mut Option<Ping>, nonce: u64)
+    ensures { slot.new ≡ slot_nonced nonce slot.old }
+{
+    if let Some(ping) = slot {
+        ping.nonce = nonce;
     }
 }
 
@@ -132,6 +141,22 @@ impl Probe {
     {
         if self.member == from {
             self.answer(misses, nonce);
+        }
+    }
+
+    /// Gives the latest ping this nonce, if there is one.
+    fn renonce(&mut self, nonce: u64)
+        ensures { self.new ≡ probe_nonced nonce self.old }
+    {
+        set_nonce(&mut self.slots[0], nonce);
+    }
+
+    /// Gives the latest ping this nonce where it is to this member.
+    fn renonce_to(&mut self, to: MemberId, nonce: u64)
+        ensures { self.new ≡ nonced_where to nonce self.old }
+    {
+        if self.member == to {
+            self.renonce(nonce);
         }
     }
 }
@@ -244,5 +269,14 @@ pub fn answer_all(probes: &mut [Probe], misses: u8, from: MemberId, nonce: u64)
 {
     for probe in probes.iter_mut() {
         probe.answer_from(misses, from, nonce);
+    }
+}
+
+/// Gives the latest ping to the member this nonce.
+pub fn renonce_all(probes: &mut [Probe], to: MemberId, nonce: u64)
+    ensures { probes.new ≡ map (nonced_where to nonce) probes.old }
+{
+    for probe in probes.iter_mut() {
+        probe.renonce_to(to, nonce);
     }
 }

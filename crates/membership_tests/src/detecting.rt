@@ -1,4 +1,4 @@
-//! A life of a few ticks, whose nonces come from the seed of zeros: they were computed by another program.
+//! Lives of a few ticks, whose nonces come from the seed of zeros: they were computed by another program.
 
 ghost use Rattle.std.specs.Prelude.{◌≡◌, true, length, IfOk};
 ghost use Rattle.ff_ids.specs.Masks.{ring_count};
@@ -145,5 +145,30 @@ fn silent_after_two_unanswered_pings(rt: HostRuntime) -> Result<(), Fail> {
     assert!(rt; out.silent().is_empty() && out.pings().is_empty());
     assert!(rt; begins(&mut detector, &life, &mut out));
     assert!(rt; goes_on(&mut detector, &life, &mut out));
+    Ok(())
+}
+
+/// A due tick, of whose pings the third member's gets another nonce behind it: its pong with that one counts, and not
+/// with the one that was drawn. The next ping has the next nonce that is drawn.
+fn learns(detector: &mut Detector, life: &Membership, out: &mut Found) -> bool
+    requires group { life.now.group ≡ detector.old.group }
+    requires joined { has_joined life.now 1 ≡ true }
+{
+    let (second, third) = (MemberId::new(2), MemberId::new(3));
+    let first_tick = finds(detector, true, life, &[], &pings(NONCES[0]), out);
+    detector.renonce(third, 7);
+    let drawn = detector.pong(third, NONCES[0][1]);
+    let learned = detector.pong(third, 7);
+    let other = detector.pong(second, NONCES[0][0]);
+    let second_tick = finds(detector, true, life, &[], &pings(NONCES[1]), out);
+    first_tick && !drawn && learned && other && second_tick
+}
+
+#[test]
+fn nonce_learned_behind_the_tick(rt: HostRuntime) -> Result<(), Fail> {
+    let life = three_members(rt.alloc(), GROUP)?;
+    let mut detector = Detector::open(rt.alloc(), &GROUP, [0; 32])?;
+    let mut out = Found::new(rt.alloc())?;
+    assert!(rt; learns(&mut detector, &life, &mut out));
     Ok(())
 }

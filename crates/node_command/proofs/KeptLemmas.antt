@@ -14,6 +14,7 @@ use Rattle.datagram.specs.Spelling.{datagram_bytes}
 use Rattle.secrets.specs.Secrets.{nonce_seed}
 use Rattle.signer.specs.Lives.{Spent}
 use Rattle.signer.specs.Signing.{stored_after}
+use Rattle.detector.specs.Silence.{nonce}
 use Rattle.node_rules.specs.Nodes.{Setting, Node, event_of, state_of}
 use Rattle.node_rules.specs.Calls.{Call, begun, lives, own_record, sends, signs, spends, takes, tells, told_of}
 use Rattle.node_rules.specs.Deliveries.{answer_to, returning_note}
@@ -26,8 +27,10 @@ use Rattle.node_rules.proofs.Small.{stored-signs, stored-takes}
 use Rattle.node_core.specs.Rolls.{recs_of}
 use Rattle.node_core.specs.Spending.{spent_by, spent_told}
 use Rattle.node_core.proofs.SpendLemmas.{report-none, told-append}
-use Rattle.node_loop.specs.Turns.{Act, Receives, Writes, Calls, life_acts, pace_for}
-use Rattle.node_loop.specs.Courses.{ServeState, acted, datagram_in, fails_next, gives, hands_over, may_tick, moves, served, served_from, tells_all, tells_what, writes_event}
+use Rattle.turn_rules.specs.Turns.{Act, Receives, Writes, Calls}
+use Rattle.node_loop.specs.Turns.{life_acts, pace_for}
+use Rattle.node_loop.specs.Courses.{ServeState, acted, fails_next, gives, hands_over, moves, served, served_from, tells_all, tells_what, writes_event}
+use Rattle.turn_rules.specs.Courses.{datagram_in, may_tick}
 use Rattle.node_loop.specs.Courses as courses
 use Rattle.node_loop.proofs.CourseLemmas.{node-gives, served-cons, served-nil}
 use Rattle.node_command.specs.declared.kit.Member.{Member}
@@ -125,9 +128,9 @@ opened-kept : (s : Setting) (first : Stored) (records : List Record) (c : Call) 
 opened-kept s first [] c h = h
 opened-kept s first (r ∷ records) c h = opened-kept s first records (takes s r c) (kept-takes s first r c h)
 
-start-kept : (s : Setting) (seed : List ℕ) (certificates : List Record) (stored : Stored) → (started s seed certificates stored).node.stored ≡ kept_behind stored (spent_told (started s seed certificates stored).told)
+start-kept : (s : Setting) (nonces : ℕ → ℕ) (certificates : List Record) (stored : Stored) → (started s nonces certificates stored).node.stored ≡ kept_behind stored (spent_told (started s nonces certificates stored).told)
 unfolding started
-start-kept s seed certificates stored = kept-signs s stored (first_note s stored) (opened s seed certificates stored) (opened-kept s stored certificates (begun (blank s seed stored)) refl)
+start-kept s nonces certificates stored = kept-signs s stored (first_note s stored) (opened s nonces certificates stored) (opened-kept s stored certificates (begun (blank s nonces stored)) refl)
 
 -- ## A course
 
@@ -190,7 +193,7 @@ pub life-kept : (m : Member) (stored : Stored) (feed : NetInputs) → (life_in m
 life-kept m stored feed =
     let first = spent_told (start_of m stored).told in
     (life-on m stored feed).kept
-    ∙ ap (λ (k : Stored). kept_behind k (life_in m stored feed).spent) (start-kept (setting_for m) (nonce_seed m.own.secret stored.next) (recs_of m.certificates.items) stored)
+    ∙ ap (λ (k : Stored). kept_behind k (life_in m stored feed).spent) (start-kept (setting_for m) (nonce (nonce_seed m.own.secret stored.next)) (recs_of m.certificates.items) stored)
     ∙ sym (kept-append stored first (life_in m stored feed).spent)
 
 pub life-bound : (m : Member) (stored : Stored) (feed : NetInputs) → (life_in m stored feed).link.bound ≡ Some (own_port m)

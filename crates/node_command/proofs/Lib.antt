@@ -4,12 +4,6 @@ pub mod LiveLemmas
 pub mod KeptLemmas
 pub mod RunLemmas
 pub mod LineLemmas
-pub mod OriginLemmas
-pub mod RemovalLemmas
-pub mod ReplyLemmas
-pub mod SentLemmas
-pub mod SignedLemmas
-pub mod DepartureLemmas
 pub mod WrittenLemmas
 pub mod RestLemmas
 pub mod SpendLemmas

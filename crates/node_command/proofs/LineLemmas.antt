@@ -12,6 +12,7 @@ use Rattle.hex.specs.Hex.{encode_lower}
 use Rattle.life_events.specs.declared.event.What.TheVariants as in_life
 use Rattle.life_laws.proofs.Lists.{All-at}
 use Rattle.records.specs.Keys.{key_bytes}
+use Rattle.records.specs.declared.CertBody.{CertBody}
 use Rattle.records.specs.declared.Body.{Body}
 use Rattle.records.specs.declared.Body.TheVariants.{Certificate, Note, Accusation}
 use Rattle.journal.specs.declared.event.Event as journal
@@ -25,13 +26,13 @@ use Rattle.journal.specs.Turns.{bytes_text, heard_text, turn_text}
 use Rattle.text_trace.specs.Lines.{has_no_feed}
 use Rattle.trace.specs.Written.{IsLineOf, IsWholeLine}
 use Rattle.trace.proofs.JustifiedLemmas.{IsTail, among-tail, line-among}
-use Rattle.trace.proofs.TextLemmas.{clear-append, clear-decimal, clear-hex, same-fronts, unspaced-decimal}
+use Rattle.trace.proofs.TextLemmas.{clear-append, clear-decimal, clear-hex, same-fronts, unspaced-decimal, unspaced-hex}
 use Rattle.trace.proofs.WrittenLemmas.{clear-accusation, clear-fault, clear-then}
 use Rattle.trace.proofs.WrittenLemmas as written
-use Rattle.node_loop.specs.Courses.{line_of, with_feed}
-use Rattle.node_command.specs.Removals.{removal_line}
-use Rattle.node_command.specs.Replies.{accepted_line, expiry_line, signed_line}
-use Rattle.node_command.specs.Sendings.{sent_line}
+use Rattle.turn_rules.specs.Lines.{line_of, with_feed}
+use Rattle.turn_rules.specs.Removals.{removal_line}
+use Rattle.turn_rules.specs.Replies.{accepted_line, expiry_line, signed_line}
+use Rattle.turn_rules.specs.Sendings.{sent_line}
 
 -- ## No line has a line feed inside it
 
@@ -210,6 +211,15 @@ spaced a b x = append_assoc (a ++ codes " ") b x ∙ append_assoc a (codes " ") 
 judged-behind : (b : List ℕ) (f : Option Fault) → ((b ++ codes " : ") ++ verdict_text f) ++ 10 ∷ [] ≡ b ++ 32 ∷ judged f
 judged-behind b f = append_assoc (b ++ codes " : ") (verdict_text f) (10 ∷ []) ∙ append_assoc b (codes " : ") (verdict_text f ++ 10 ∷ [])
 
+took-certificate : (c : CertBody) (f : Option Fault)
+    → what_text (told.Took (Certificate c) f) ++ 10 ∷ [] ≡ codes "took cert " ++ numbered c.member (numbered c.port (encode_lower (key_bytes c.key) ++ 32 ∷ judged f))
+took-certificate c f =
+    let digits = encode_lower (key_bytes c.key) in
+    let one = (decimal c.member ++ codes " ") ++ decimal c.port in
+    let two = (one ++ codes " ") ++ digits in
+    ap (λ (x : List ℕ). codes "took cert " ++ x)
+    (judged-behind two f ∙ spaced one digits (32 ∷ judged f) ∙ spaced (decimal c.member) (decimal c.port) (32 ∷ (digits ++ 32 ∷ judged f)))
+
 took-note : (n : NoteBody) (f : Option Fault) → what_text (told.Took (Note n) f) ++ 10 ∷ [] ≡ codes "took note " ++ numbered n.member (numbered n.epoch (numbered n.mask.0 (judged f)))
 took-note n f =
     let one = (decimal n.member ++ codes " ") ++ decimal n.epoch in
@@ -231,10 +241,14 @@ judged-none : (f : Option Fault) → judged f ≡ judged None → f ≡ None
 judged-none None e = refl
 judged-none (Some fault) e = absurd (omega (arith, ap (λ (x : List ℕ). get_or x 2 0) e))
 
--- a note or an accusation
-abbrev pub IsStatement : Body → Type 0
-IsStatement (Certificate c) = ⊥
-IsStatement other = Unit {0}
+certificate-accepted : (c d : CertBody) (f : Option Fault) → what_text (told.Took (Certificate c) f) ++ 10 ∷ [] ≡ what_text (told.Took (Certificate d) None) ++ 10 ∷ [] → f ≡ None
+certificate-accepted c d f e =
+    let all = ap (λ (x : List ℕ). drop 10 x) (sym (took-certificate c f) ∙ e ∙ took-certificate d None) in
+    let ports = behind-number c.member d.member _ _ all in
+    let digits = behind-number c.port d.port _ _ ports in
+    let one = encode_lower (key_bytes c.key) in
+    let other = encode_lower (key_bytes d.key) in
+    judged-none f (same-fronts 32 one other _ _ (unspaced-hex (key_bytes c.key)) (unspaced-hex (key_bytes d.key)) digits).rests
 
 note-accepted : (m n : NoteBody) (f : Option Fault) → what_text (told.Took (Note m) f) ++ 10 ∷ [] ≡ what_text (told.Took (Note n) None) ++ 10 ∷ [] → f ≡ None
 note-accepted m n f e =
@@ -251,37 +265,39 @@ accusation-accepted a b f e =
     let rings = behind-number a.epoch b.epoch _ _ epochs in
     judged-none f (behind-number a.ring.0 b.ring.0 _ _ rings)
 
-none-faulty : (b body : Body) (f : Option Fault) → IsStatement body → what_text (told.Took b f) ++ 10 ∷ [] ≡ what_text (told.Took body None) ++ 10 ∷ [] → f ≡ None
-none-faulty b (Certificate c) f of e = absurd of
-none-faulty (Certificate c) (Note n) f of e = absurd (omega (arith, ap (λ (x : List ℕ). get_or x 5 0) e))
-none-faulty (Note m) (Note n) f of e = note-accepted m n f e
-none-faulty (Accusation a) (Note n) f of e = absurd (omega (arith, ap (λ (x : List ℕ). get_or x 5 0) e))
-none-faulty (Certificate c) (Accusation b) f of e = absurd (omega (arith, ap (λ (x : List ℕ). get_or x 5 0) e))
-none-faulty (Note m) (Accusation b) f of e = absurd (omega (arith, ap (λ (x : List ℕ). get_or x 5 0) e))
-none-faulty (Accusation a) (Accusation b) f of e = accusation-accepted a b f e
+none-faulty : (b body : Body) (f : Option Fault) → what_text (told.Took b f) ++ 10 ∷ [] ≡ what_text (told.Took body None) ++ 10 ∷ [] → f ≡ None
+none-faulty (Certificate c) (Certificate d) f e = certificate-accepted c d f e
+none-faulty (Note m) (Certificate d) f e = absurd (omega (arith, ap (λ (x : List ℕ). get_or x 5 0) e))
+none-faulty (Accusation a) (Certificate d) f e = absurd (omega (arith, ap (λ (x : List ℕ). get_or x 5 0) e))
+none-faulty (Certificate c) (Note n) f e = absurd (omega (arith, ap (λ (x : List ℕ). get_or x 5 0) e))
+none-faulty (Note m) (Note n) f e = note-accepted m n f e
+none-faulty (Accusation a) (Note n) f e = absurd (omega (arith, ap (λ (x : List ℕ). get_or x 5 0) e))
+none-faulty (Certificate c) (Accusation b) f e = absurd (omega (arith, ap (λ (x : List ℕ). get_or x 5 0) e))
+none-faulty (Note m) (Accusation b) f e = absurd (omega (arith, ap (λ (x : List ℕ). get_or x 5 0) e))
+none-faulty (Accusation a) (Accusation b) f e = accusation-accepted a b f e
 
 -- the text of what happened, where it is that of such an acceptance
-accepted-word : (w : whats.What) (body : Body) → IsStatement body → what_text w ++ 10 ∷ [] ≡ what_text (told.Took body None) ++ 10 ∷ [] → (b : Body) × (w ≡ told.Took b None)
-accepted-word (told.Entered k) body of e = absurd (omega (arith, ap (λ (x : List ℕ). get_or x 0 0) e))
-accepted-word (told.Expired b) body of e = absurd (omega (arith, ap (λ (x : List ℕ). get_or x 0 0) e))
-accepted-word (told.Removed k) body of e = absurd (omega (arith, ap (λ (x : List ℕ). get_or x 0 0) e))
-accepted-word (told.Fell b) body of e = absurd (omega (arith, ap (λ (x : List ℕ). get_or x 0 0) e))
-accepted-word (told.Spent index b) body of e = absurd (omega (arith, ap (λ (x : List ℕ). get_or x 0 0) e))
-accepted-word (told.Took b fault) body of e = (b, ap (λ (f : Option Fault). told.Took b f) (none-faulty b body fault of e))
-accepted-word (told.BadForm place) body of e = absurd (omega (arith, ap (λ (x : List ℕ). get_or x 0 0) e))
-accepted-word (told.Ping from nonce) body of e = absurd (omega (arith, ap (λ (x : List ℕ). get_or x 0 0) e))
-accepted-word (told.Pong from nonce counted) body of e = absurd (omega (arith, ap (λ (x : List ℕ). get_or x 0 0) e))
-accepted-word (told.Summary from page flag) body of e = absurd (omega (arith, ap (λ (x : List ℕ). get_or x 0 0) e))
-accepted-word (told.Silent k) body of e = absurd (omega (arith, ap (λ (x : List ℕ). get_or x 0 0) e))
-accepted-word (told.Exhausted next) body of e = absurd (omega (arith, ap (λ (x : List ℕ). get_or x 0 0) e))
-accepted-word (told.Sent number to bytes) body of e = absurd (omega (arith, ap (λ (x : List ℕ). get_or x 0 0) e))
-accepted-word (told.Lost number) body of e = absurd (omega (arith, ap (λ (x : List ℕ). get_or x 0 0) e))
-accepted-word (told.Got number) body of e = absurd (omega (arith, ap (λ (x : List ℕ). get_or x 0 0) e))
-accepted-word told.Stopped body of e = absurd (omega (arith, ap (λ (x : List ℕ). get_or x 0 0) e))
+accepted-word : (w : whats.What) (body : Body) → what_text w ++ 10 ∷ [] ≡ what_text (told.Took body None) ++ 10 ∷ [] → (b : Body) × (w ≡ told.Took b None)
+accepted-word (told.Entered k) body e = absurd (omega (arith, ap (λ (x : List ℕ). get_or x 0 0) e))
+accepted-word (told.Expired b) body e = absurd (omega (arith, ap (λ (x : List ℕ). get_or x 0 0) e))
+accepted-word (told.Removed k) body e = absurd (omega (arith, ap (λ (x : List ℕ). get_or x 0 0) e))
+accepted-word (told.Fell b) body e = absurd (omega (arith, ap (λ (x : List ℕ). get_or x 0 0) e))
+accepted-word (told.Spent index b) body e = absurd (omega (arith, ap (λ (x : List ℕ). get_or x 0 0) e))
+accepted-word (told.Took b fault) body e = (b, ap (λ (f : Option Fault). told.Took b f) (none-faulty b body fault e))
+accepted-word (told.BadForm place) body e = absurd (omega (arith, ap (λ (x : List ℕ). get_or x 0 0) e))
+accepted-word (told.Ping from nonce) body e = absurd (omega (arith, ap (λ (x : List ℕ). get_or x 0 0) e))
+accepted-word (told.Pong from nonce counted) body e = absurd (omega (arith, ap (λ (x : List ℕ). get_or x 0 0) e))
+accepted-word (told.Summary from page flag) body e = absurd (omega (arith, ap (λ (x : List ℕ). get_or x 0 0) e))
+accepted-word (told.Silent k) body e = absurd (omega (arith, ap (λ (x : List ℕ). get_or x 0 0) e))
+accepted-word (told.Exhausted next) body e = absurd (omega (arith, ap (λ (x : List ℕ). get_or x 0 0) e))
+accepted-word (told.Sent number to bytes) body e = absurd (omega (arith, ap (λ (x : List ℕ). get_or x 0 0) e))
+accepted-word (told.Lost number) body e = absurd (omega (arith, ap (λ (x : List ℕ). get_or x 0 0) e))
+accepted-word (told.Got number) body e = absurd (omega (arith, ap (λ (x : List ℕ). get_or x 0 0) e))
+accepted-word told.Stopped body e = absurd (omega (arith, ap (λ (x : List ℕ). get_or x 0 0) e))
 
--- an event whose line gives that a note or an accusation was accepted is one
-pub accepted-event : (e : journal.Event) (moment : ℕ) (body : Body) → IsStatement body → line_of e ≡ accepted_line moment body → (b : Body) × (e.what ≡ told.Took b None)
-accepted-event e moment body of same = accepted-word e.what body of (same-what e (record { moment = moment; what = told.Took body None }) same)
+-- an event whose line gives that a record was accepted is one
+pub accepted-event : (e : journal.Event) (moment : ℕ) (body : Body) → line_of e ≡ accepted_line moment body → (b : Body) × (e.what ≡ told.Took b None)
+accepted-event e moment body same = accepted-word e.what body (same-what e (record { moment = moment; what = told.Took body None }) same)
 
 -- ## Which line gives an accusation that is signed
 

@@ -12,8 +12,9 @@ use Rattle.node_rules.specs.Nodes.{Node, Setting}
 use Rattle.node_core.specs.Playing.{IsNode, Kept}
 use Rattle.node_loop.specs.declared.fault.ServeFault.{ServeFault}
 use Rattle.node_loop.specs.declared.fault.ServeFault.TheVariants as serve
-use Rattle.node_loop.specs.Turns.{Act}
-use Rattle.node_loop.specs.Courses.{ServeState, line_of, served, served_from, tells_all, writes}
+use Rattle.turn_rules.specs.Turns.{Act}
+use Rattle.node_loop.specs.Courses.{ServeState, served, served_from, tells_all, writes}
+use Rattle.turn_rules.specs.Lines.{line_of}
 use Rattle.node_loop.specs.Serving.{Serves}
 use Rattle.node_loop.specs.Writing as loop
 use Rattle.node_loop.specs.Writing.{Before, IsAt, IsWithin, Standing, Stands, Tells, before_all, standing}
@@ -21,7 +22,9 @@ use Rattle.node_loop.proofs.SendLemmas.{tells-writes}
 use Rattle.node_loop.proofs.TurnLemmas.{begins-at}
 use Rattle.node_command.specs.declared.halt.NodeHalt.TheVariants as halt
 use Rattle.node_command.specs.Halts.{IsBehind, IsServed, halt_served, is_writable, is_write_fault}
-use Rattle.node_command.specs.Journal.{Environment, IsLived, IsUnsent, IsUntold, Lives, end_line, lines_of}
+use Rattle.node_command.specs.Journal.{Environment, IsLived, IsUnsent, IsUntold, Lives}
+use Rattle.turn_rules.specs.Journals.{end_line}
+use Rattle.turn_rules.specs.Lines.{lines_of}
 use Rattle.ports.specs.Outside.{OfDisk}
 
 -- ## What the start reports

@@ -17,6 +17,7 @@ use Rattle.signer.specs.Lives.{EndsLives, EndsNow, EndsWithin, IsLiving, Spent}
 use Rattle.signer.specs.Signing.{SignerState}
 use Rattle.signer.proofs.LivingLemmas.{kept_by_opening, nothing_spent}
 use Rattle.signer.proofs.OnwardLemmas.{within-none}
+use Rattle.detector.specs.Silence.{nonce}
 use Rattle.node_rules.specs.Nodes.{Setting}
 use Rattle.node_core.specs.Begins.{IsVouchable, Starts}
 use Rattle.node_core.specs.declared.NodeFault.{NodeFault}
@@ -121,7 +122,7 @@ fronts-so m st old mid new later spent h begun key = λ before spent_before ends
     (key.any_moment (tag_of m) before spent_before (living m st old mid h begun before spent_before ends))
 
 pub started-so : (m : Member) (st : StoreState) (kept : Kept) (told : List journal.Event) (old mid new : OfDisk) → Opened m st old mid → Begun m st mid.moments → new.faults ≡ mid.faults
-    → Starts (setting_for m) (nonce_seed m.own.secret st.state.next) (recs_of m.certificates.items) st.state kept [] told
+    → Starts (setting_for m) (nonce (nonce_seed m.own.secret st.state.next)) (recs_of m.certificates.items) st.state kept [] told
     → IsVouchable (setting_for m) (public_key (key_of m)) (recs_of m.certificates.items) st.state → kept.ended ≡ false → kept.signer.closed ≡ false
     → SpendsIn {T = Kept} (Ok kept) (signer_of m st) kept.signer mid.moments new.moments [] told → Begins m old new told (Ok kept)
 started-so m st kept told old mid new h begun faults starts vouchable going unclosed spends =
@@ -185,17 +186,17 @@ BegunBy signer st = (tag before : List ℕ) (spent : List Spent) (moments : List
 begun-as : (m : Member) (st : StoreState) (mid : List Moment) (signer : SignerState) → signer ≡ signer_of m st → BegunBy signer st → Begun m st mid
 begun-as m st mid signer is begins = λ tag before spent moments settled ends. subst (λ x. IsLiving tag before spent x moments) is (begins tag before spent moments settled ends)
 
-pub started-from : (m : Member) (st : StoreState) (kept : Kept) (told es : List journal.Event) (old mid new : OfDisk) (signer : SignerState) (seed : List ℕ) → Opened m st old mid → signer ≡ signer_of m st → seed ≡ nonce_seed m.own.secret st.state.next → es ≡ []
+pub started-from : (m : Member) (st : StoreState) (kept : Kept) (told es : List journal.Event) (old mid new : OfDisk) (signer : SignerState) (nonces : ℕ → ℕ) → Opened m st old mid → signer ≡ signer_of m st → nonces ≡ nonce (nonce_seed m.own.secret st.state.next) → es ≡ []
     → BegunBy signer st → new.faults ≡ mid.faults
-    → ((s : Setting) → s ≡ setting_of m.group m.heal m.own.member m.authority signer.key → Starts s seed (recs_of m.certificates.items) signer.state kept es told)
+    → ((s : Setting) → s ≡ setting_of m.group m.heal m.own.member m.authority signer.key → Starts s nonces (recs_of m.certificates.items) signer.state kept es told)
     → ((s : Setting) → s ≡ setting_of m.group m.heal m.own.member m.authority signer.key → IsVouchable s (public_key signer.key) (recs_of m.certificates.items) signer.state)
     → kept.ended ≡ false → kept.signer.closed ≡ false → SpendsIn {T = Kept} (Ok kept) signer kept.signer mid.moments new.moments es told → Begins m old new told (Ok kept)
-started-from m st kept told es old mid new signer seed h is seed_is none begins faults starts vouchable going unclosed spends =
+started-from m st kept told es old mid new signer nonces h is nonces_are none begins faults starts vouchable going unclosed spends =
     let same : setting_for m ≡ setting_of m.group m.heal m.own.member m.authority signer.key = ap (λ (x : SignerState). setting_of m.group m.heal m.own.member m.authority x.key) (sym is) in
     let recs = recs_of m.certificates.items in
-    let s1 = subst (λ x. Starts (setting_for m) seed recs x kept es told) (ap (λ (x : SignerState). x.state) is) (starts (setting_for m) same) in
-    let s2 = subst (λ x. Starts (setting_for m) x recs st.state kept es told) seed_is s1 in
-    let s3 = subst (λ x. Starts (setting_for m) (nonce_seed m.own.secret st.state.next) recs st.state kept x told) none s2 in
+    let s1 = subst (λ x. Starts (setting_for m) nonces recs x kept es told) (ap (λ (x : SignerState). x.state) is) (starts (setting_for m) same) in
+    let s2 = subst (λ x. Starts (setting_for m) x recs st.state kept es told) nonces_are s1 in
+    let s3 = subst (λ x. Starts (setting_for m) (nonce (nonce_seed m.own.secret st.state.next)) recs st.state kept x told) none s2 in
     let v = subst (λ (x : SignerState). IsVouchable (setting_for m) (public_key x.key) recs x.state) is (vouchable (setting_for m) same) in
     let p = subst (λ x. SpendsIn {T = Kept} (Ok kept) signer kept.signer mid.moments new.moments x told) none spends in
     let q = subst (λ x. SpendsIn {T = Kept} (Ok kept) x kept.signer mid.moments new.moments [] told) is p in

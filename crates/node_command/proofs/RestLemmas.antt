@@ -10,86 +10,69 @@ use Rattle.play.specs.Plays.{IoState}
 use Rattle.play.specs.declared.stop.Stop.{Stop}
 use Rattle.play.specs.declared.stop.Stop.TheVariants as stop
 use Rattle.schedule_texts.specs.declared.kit.KitText.TheVariants as kit
-use Rattle.records.specs.declared.Body.TheVariants.{Accusation}
 use Rattle.secrets.specs.Secrets.{nonce_seed}
-use Rattle.rebuttal.proofs.Masks.{all_rings-good}
 use Rattle.text_trace.specs.Trace.{Refuses, Trace, Writes}
 use Rattle.trace.specs.Written.{IsLineOf}
 use Rattle.whole_text.specs.Gathered.{IsUnfinished, Judging, lines_from, nothing, owed_whole, unread}
 use Rattle.whole_text.specs.Laws.{told-silent}
 use Rattle.whole_text.proofs.WholeLemmas.{never-unwritten}
 use Rattle.sign_keys.specs.Keys.{public_key}
+use Rattle.detector.specs.Silence.{nonce}
 use Rattle.node_core.specs.Begins.{IsVouchable}
 use Rattle.node_core.specs.Rolls.{recs_of}
-use Rattle.journal.specs.declared.event.What.TheVariants as happened
-use Rattle.node_loop.specs.Turns.{pace_for}
+use Rattle.node_loop.specs.Courses.{served_from}
 use Rattle.node_rules.specs.Lives.{AreCertificates}
-use Rattle.node_rules.proofs.OwnKey.{key-started}
-use Rattle.node_rules.proofs.OwnNote.{own-started}
-use Rattle.node_rules.proofs.SentRecords.{sent-authentic}
+use Rattle.node_rules.specs.Claims.{claims_all}
+use Rattle.turn_laws.specs.Resting.{MayStart}
+use Rattle.turn_laws.proofs.JournalLemmas.{IsFounded, TellsOf, founded, tells-start}
 use Rattle.node_command.specs.declared.halt.NodeHalt.{NodeHalt}
 use Rattle.node_command.specs.declared.halt.NodeHalt.TheVariants as halt
 use Rattle.node_command.specs.declared.kit.Member.{Member}
 use Rattle.node_command.specs.Members.{IsMember, key_of, kit_judging}
 use Rattle.node_command.specs.Opening.{IsFound, setting_for, start_of}
 use Rattle.ports.specs.Outside.{OfDisk}
-use Rattle.node_command.specs.Journal.{Environment, end_line, lines_of}
+use Rattle.node_command.specs.Journal.{Environment, bound_for}
+use Rattle.turn_rules.specs.Journals.{end_line}
+use Rattle.turn_rules.specs.Lines.{lines_of}
 use Rattle.node_command.specs.Running.{NetInputs, HasRun, IsUnwritten, LivesOut, Runs, RunsBehind, RunsOnce, life_in, once_bound}
-use Rattle.node_command.specs.Written.{AreWholeLines, LinesRest, UnlessCut, acts_of, event_line, first_of}
+use Rattle.node_command.specs.Written.{AreWholeLines, LinesRest, UnlessCut, acts_of, first_of}
+use Rattle.turn_rules.specs.Lines.{event_line}
 use Rattle.node_command.proofs.LineLemmas.{in-front, lines-behind}
-use Rattle.node_command.proofs.RemovalLemmas.{removal-no-start, start-quiet, start-unaccused}
-use Rattle.node_command.proofs.ReplyLemmas.{expiry-no-start, taken-no-start}
-use Rattle.node_command.proofs.SentLemmas.{sent-no-start}
-use Rattle.node_command.proofs.SignedLemmas.{accusation-no-start}
-use Rattle.node_command.proofs.WrittenLemmas.{Gives, IsFounded, TellsOf, WritesOf, end-lines, life-of, lines-all, lines-told, lives-written, writes-all}
+use Rattle.node_command.proofs.WrittenLemmas.{Gives, WritesOf, end-lines, lines-all, lines-told, lives-written, writes-all}
 
 -- ## The life that began
 
-founded : (m : Member) (stored : Stored) (feed : NetInputs) → IsVouchable (setting_for m) (public_key (key_of m)) (recs_of m.certificates.items) stored → IsFounded (setting_for m) (public_key (key_of m)) (first_of m stored feed)
-founded m stored feed v =
-    let seed = nonce_seed m.own.secret stored.next in
-    let recs = recs_of m.certificates.items in
-    record {
-      rooted = record {
-        some = v.rings.some;
-        sign = v.signatures;
-        vouched = key-started (setting_for m) (public_key (key_of m)) seed recs stored v.kit.all v.kit.own v.certified v.left;
-        unaccused = start-unaccused (setting_for m) seed recs stored v.kit.all;
-        kept = own-started (setting_for m) seed recs stored (all_rings-good (setting_for m).group.t) v.kit.all v.kit.own;
-      };
-      upright = record { sends = λ inputs i fails_at. sent-authentic (setting_for m) (public_key (key_of m)) seed recs stored inputs i fails_at v.rings.some v.kit v.certified v.signatures v.left };
-    }
+may-start : (m : Member) (stored : Stored) → IsVouchable (setting_for m) (public_key (key_of m)) (recs_of m.certificates.items) stored → MayStart claims_all (setting_for m) (public_key (key_of m)) (recs_of m.certificates.items) stored
+may-start m stored v = record { rings = v.rings; kit = v.kit; certified = v.certified; signatures = λ index body claimed. v.signatures index body; left = v.left }
 
-tells-start : (m : Member) (stored : Stored) (feed : NetInputs) → AreCertificates (recs_of m.certificates.items) → TellsOf (setting_for m) (first_of m stored feed) (acts_of m feed) (start_of m stored).told
-tells-start m stored feed all at (happened.Removed who) i = absurd (start-quiet (setting_for m) (nonce_seed m.own.secret stored.next) (recs_of m.certificates.items) stored _ (removal-no-start at who) all i)
-tells-start m stored feed all at (happened.Expired a) i = absurd (start-quiet (setting_for m) (nonce_seed m.own.secret stored.next) (recs_of m.certificates.items) stored _ (expiry-no-start at a) all i)
-tells-start m stored feed all at (happened.Took body None) i = absurd (start-quiet (setting_for m) (nonce_seed m.own.secret stored.next) (recs_of m.certificates.items) stored _ (taken-no-start at body) all i)
-tells-start m stored feed all at (happened.Spent index (Accusation a)) i = absurd (start-quiet (setting_for m) (nonce_seed m.own.secret stored.next) (recs_of m.certificates.items) stored _ (accusation-no-start at index a) all i)
-tells-start m stored feed all at (happened.Sent place to bytes) i =
-    absurd (start-quiet (setting_for m) (nonce_seed m.own.secret stored.next) (recs_of m.certificates.items) stored _ (sent-no-start at place to bytes) all i)
-tells-start m stored feed all at _ i = tt
+founded-for : (m : Member) (stored : Stored) → IsVouchable (setting_for m) (public_key (key_of m)) (recs_of m.certificates.items) stored → IsFounded claims_all (setting_for m) (public_key (key_of m)) (first_of m stored)
+founded-for m stored v = founded claims_all (setting_for m) (public_key (key_of m)) (nonce (nonce_seed m.own.secret stored.next)) (recs_of m.certificates.items) stored (may-start m stored v)
+
+told-for : (m : Member) (stored : Stored) (feed : NetInputs) → AreCertificates (recs_of m.certificates.items) → TellsOf claims_all (setting_for m) (first_of m stored) (acts_of m feed) (start_of m stored).told
+told-for m stored feed all = tells-start claims_all (setting_for m) (nonce (nonce_seed m.own.secret stored.next)) (recs_of m.certificates.items) stored (first_of m stored) (acts_of m feed) all
 
 -- what was written of the life
 abbrev WritesIn : Member → Stored → NetInputs → Option (List ℕ) → Option (List ℕ) → Result (Unit {0}) NodeHalt → Type 0
-WritesIn m stored feed was now result = WritesOf (setting_for m) (first_of m stored feed) (acts_of m feed) was now result
+WritesIn m stored feed was now result = WritesOf (setting_for m) (first_of m stored) (acts_of m feed) was now result
 
 run-written : (m : Member) (feed : NetInputs) (was now : Environment) (done : Unit {0}) → (h : HasRun m feed was now) → WritesIn m h.stored feed was.taken now.taken (Ok done)
 run-written m feed was now done h =
     let s = setting_for m in
-    let start = first_of m h.stored feed in
+    let start = first_of m h.stored in
+    let begun = served_from start (bound_for m feed.link) in
     let acts = acts_of m feed in
     let told = (start_of m h.stored).told in
     let text = (life_in m h.stored feed).text in
-    let first = lines-told s start acts told (tells-start m h.stored feed h.vouchable.kit.all) in
-    let all = lines-all s (public_key (key_of m)) start acts (founded m h.stored feed h.vouchable) refl (life-of (pace_for (setting_for m) m.millis) feed.stay.turns feed.stay.leave feed.link.coming feed.reading feed.readings) in
+    let first = lines-told s start acts told (told-for m h.stored feed h.vouchable.kit.all) in
+    let all = lines-all s (public_key (key_of m)) begun acts (founded-for m h.stored h.vouchable) refl in
     writes-all s start acts was.taken now.taken (lines_of told ++ text ++ end_line) (Ok done) h.written
     (lines-behind (Gives s start acts) (lines_of told ++ text) end_line (lines-behind (Gives s start acts) (lines_of told) text first all) (end-lines s start acts)) (λ x. x)
 
 out-written : (m : Member) (feed : NetInputs) (was now : Environment) (result : Result (Unit {0}) NodeHalt) → (l : LivesOut m feed was now result) → WritesIn m l.0 feed was.taken now.taken result
 out-written m feed was now result l =
     let stored = l.0 in
-    lives-written (setting_for m) (public_key (key_of m)) l.1 (first_of m stored feed) (acts_of m feed) (start_of m stored).told (record was { disk = l.2 }) now result
-    (founded m stored feed l.3.vouchable) refl (life-of (pace_for (setting_for m) m.millis) feed.stay.turns feed.stay.leave feed.link.coming feed.reading feed.readings) (tells-start m stored feed l.3.vouchable.kit.all) l.4
+    lives-written (setting_for m) (public_key (key_of m)) l.1 (served_from (first_of m stored) (bound_for m feed.link)) (acts_of m feed) (start_of m stored).told (record was { disk = l.2 }) now result
+    (founded-for m stored l.3.vouchable) refl (told-for m stored feed l.3.vouchable.kit.all) l.4
 
 -- ## The lines of a run
 
@@ -129,7 +112,7 @@ rests-life feed was between now old m stored result read found w =
         read = read;
         stored = stored;
         found = found;
-        gives = in-front (Gives (setting_for m) (first_of m stored feed) (acts_of m feed)) w.whole w.bytes w.front.more (event_line moment what) w.lines w.front.is of moment what refl;
+        gives = in-front (Gives (setting_for m) (first_of m stored) (acts_of m feed)) w.whole w.bytes w.front.more (event_line moment what) w.lines w.front.is of moment what refl;
       };
       ended = w.ended;
     }

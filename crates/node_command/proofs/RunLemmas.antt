@@ -34,7 +34,8 @@ use Rattle.node_rules.specs.Starting.{blank, opened, started}
 use Rattle.node_core.specs.Playing.{Kept}
 use Rattle.node_core.specs.Spending.{spent_told}
 use Rattle.node_loop.specs.Turns.{life_acts, pace_for}
-use Rattle.node_loop.specs.Courses.{datagram_in, served_from}
+use Rattle.turn_rules.specs.Courses.{datagram_in}
+use Rattle.node_loop.specs.Courses.{served_from}
 use Rattle.node_command.specs.declared.halt.NodeHalt.{NodeHalt}
 use Rattle.node_command.specs.declared.halt.NodeHalt.TheVariants as halt
 use Rattle.node_command.specs.declared.kit.Member.{Member}
@@ -44,7 +45,9 @@ use Rattle.node_command.specs.Members.{IsMember, kit_judging, own_port, tag_of}
 use Rattle.node_command.specs.Opening.{Begins, IsBegun, OpensFile, setting_for, start_of}
 use Rattle.ports.specs.Outside.{OfDisk}
 use Rattle.node_command.specs.Spendings.{IsSpentFrom}
-use Rattle.node_command.specs.Journal.{Environment, IsLived, IsUnsent, Lives, environment, bound_for, end_line, lines_of}
+use Rattle.node_command.specs.Journal.{Environment, IsLived, IsUnsent, Lives, environment, bound_for}
+use Rattle.turn_rules.specs.Journals.{end_line}
+use Rattle.turn_rules.specs.Lines.{lines_of}
 use Rattle.node_command.proofs.KeptLemmas.{life-bound, life-kept}
 use Rattle.node_command.specs.Running.{NetInputs, HasRun, IsCaused, IsStoreCause, LivesOut, Runs, RunsBehind, RunsOnce, Takes, life_in}
 
@@ -85,10 +88,10 @@ opened-unsent : (s : Setting) (certificates : List Record) (c : Call) → AllByR
 opened-unsent s [] c all = all
 opened-unsent s (r ∷ rs) c all = opened-unsent s rs (takes s r c) (taken-unsent s r c all)
 
-pub start-unsent : (s : Setting) (seed : List ℕ) (certificates : List Record) (stored : Stored) → AllByRecursion IsUnsent (started s seed certificates stored).told
+pub start-unsent : (s : Setting) (nonces : ℕ → ℕ) (certificates : List Record) (stored : Stored) → AllByRecursion IsUnsent (started s nonces certificates stored).told
 unfolding started signs
-start-unsent s seed certificates stored =
-    taken-unsent s _ _ (each-behind IsUnsent (opened s seed certificates stored).told _ (opened-unsent s certificates (begun (blank s seed stored)) tt) (refl, tt))
+start-unsent s nonces certificates stored =
+    taken-unsent s _ _ (each-behind IsUnsent (opened s nonces certificates stored).told _ (opened-unsent s certificates (begun (blank s nonces stored)) tt) (refl, tt))
 
 pub begun-unsent : (m : Member) (node : Kept) (events : List journal.Event) (old new : OfDisk) → Begins m old new events (Ok node) → AllByRecursion IsUnsent events
 begun-unsent m node events old new h =

@@ -27,13 +27,14 @@ use Rattle.node_core.specs.Spending.{spent_told}
 use Rattle.node_core.proofs.SpendLemmas.{lives-same}
 use Rattle.node_loop.specs.declared.fault.ServeFault.{ServeFault}
 use Rattle.node_loop.specs.declared.fault.ServeFault.TheVariants as serve
-use Rattle.node_loop.specs.Lines.{GoesOn, JournalLine, WritesLines, WritesSpent, WroteFront, bytes_of, spent_in}
+use Rattle.node_loop.specs.Lines.{GoesOn, WritesLines, WritesSpent, WroteFront, spent_in}
+use Rattle.turn_rules.specs.Lines.{JournalLine, bytes_of}
 use Rattle.node_loop.proofs.LineLemmas.{bytes-append, faults-trans, front-behind, front-longer, spent-append, spent-unwritten}
 use Rattle.node_command.specs.declared.halt.NodeHalt.{NodeHalt}
 use Rattle.node_command.specs.declared.halt.NodeHalt.TheVariants as halt
 use Rattle.node_command.specs.declared.kit.Member.{Member}
 use Rattle.node_command.specs.Halts.{IsServed, halt_of, halt_served}
-use Rattle.node_command.specs.Journal.{end_line}
+use Rattle.turn_rules.specs.Journals.{end_line}
 use Rattle.node_command.specs.Members.{IsMember, kit_judging, tag_of}
 use Rattle.node_command.specs.Opening.{Begins, Ends, EndsFronts, IsBegun, IsFound, IsUnstarted, start_of}
 use Rattle.node_command.specs.Spendings.{IsSpentFrom, LifeSpends, MayFindNone, Spends, SpendsBehind, SpendsFrom, SpendsNone, SpendsNothing, WritesJournal, is_unbound}

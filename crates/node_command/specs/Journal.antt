@@ -1,5 +1,5 @@
 -- The journal of a life, and how the writing and serving of it went, by the answer.
-use Rattle.std.specs.Prelude.{◌≡◌, ℕ, ◌⊎◌, List, ◌++◌, flat_map, Option, Some, None, Result, Ok, Err, codes}
+use Rattle.std.specs.Prelude.{◌≡◌, ℕ, ◌⊎◌, List, ◌++◌, Option, Some, None, Result, Ok, Err}
 use Rattle.std.specs.Io.KnownBytes.{Appends}
 use Rattle.epoch_store.specs.declared.Stored.{Stored}
 use Rattle.journal.specs.declared.event.Event as journal
@@ -12,8 +12,12 @@ use Rattle.node_core.specs.Spending.{LivesOn}
 use Rattle.node_core.specs.Told.{IsPrefix}
 use Rattle.node_loop.specs.declared.fault.ServeFault.{ServeFault}
 use Rattle.node_loop.specs.declared.fault.ServeFault.TheVariants as serve
-use Rattle.node_loop.specs.Turns.{Act, life_acts, pace_for}
-use Rattle.node_loop.specs.Courses.{ServeState, datagram_in, line_of, served, served_from, with_feed}
+use Rattle.turn_rules.specs.Turns.{Act}
+use Rattle.node_loop.specs.Turns.{life_acts, pace_for}
+use Rattle.node_loop.specs.Courses.{ServeState, served, served_from}
+use Rattle.turn_rules.specs.Courses.{datagram_in}
+use Rattle.turn_rules.specs.Lines.{lines_of}
+use Rattle.turn_rules.specs.Journals.{end_line}
 use Rattle.node_loop.specs.Serving.{IsStopped, Serves}
 use Rattle.node_loop.specs.Writing.{before_all, standing}
 use Rattle.node_command.specs.declared.halt.NodeHalt.{NodeHalt}
@@ -26,16 +30,9 @@ use Rattle.ports.specs.Outside.{OfDisk}
 
 -- ## What is written
 
--- the lines of these events
-abbrev pub lines_of : List journal.Event → List ℕ
-lines_of events = flat_map line_of events
-
 -- it reports no datagram
 abbrev pub IsUnsent : journal.Event → Type 0
 IsUnsent e = datagram_in e.what ≡ None
-
-abbrev pub end_line : List ℕ
-end_line = with_feed (codes "end")
 
 -- the link, once the member's port is bound
 abbrev pub bound_for : Member → LinkState → LinkState

@@ -4,8 +4,4 @@ pub mod Opening
 pub mod Journal
 pub mod Spendings
 pub mod Running
-pub mod Removals
-pub mod Replies
-pub mod Departures
-pub mod Sendings
 pub mod Written

@@ -14,6 +14,7 @@ use Rattle.secrets.specs.Secrets.{nonce_seed}
 use Rattle.sign_keys.specs.Keys.{index_count, public_key}
 use Rattle.signer.specs.Lives.{EndsNow, EndsWithin, IsLiving, Spent}
 use Rattle.signer.specs.Signing.{SignerState}
+use Rattle.detector.specs.Silence.{nonce}
 use Rattle.node_rules.specs.Nodes.{Setting}
 use Rattle.node_rules.specs.Calls.{Call}
 use Rattle.node_rules.specs.Starting.{started}
@@ -33,7 +34,7 @@ setting_for m = setting_of m.group m.heal m.own.member m.authority (key_of m)
 
 -- How its life begins, where its store keeps this.
 abbrev pub start_of : Member → Stored → Call
-start_of m stored = started (setting_for m) (nonce_seed m.own.secret stored.next) (recs_of m.certificates.items) stored
+start_of m stored = started (setting_for m) (nonce (nonce_seed m.own.secret stored.next)) (recs_of m.certificates.items) stored
 
 -- ## The disk
 

@@ -12,11 +12,12 @@ use Rattle.ports.specs.Disk.{Moment, Since}
 use Rattle.signer.specs.Lives.{EndsLives, EndsNow, IsOnce, LivesOn, Spent, indexes, note_epochs}
 use Rattle.signer.specs.Signing.{SignerState}
 use Rattle.node_core.specs.Spending.{spent_told}
-use Rattle.node_loop.specs.Lines.{JournalLine, WroteFront, bytes_of, faults_behind, spent_in}
+use Rattle.turn_rules.specs.Lines.{JournalLine, bytes_of}
+use Rattle.node_loop.specs.Lines.{WroteFront, faults_behind, spent_in}
 use Rattle.node_command.specs.declared.halt.NodeHalt.{NodeHalt}
 use Rattle.node_command.specs.declared.halt.NodeHalt.TheVariants as halt
 use Rattle.node_command.specs.declared.kit.Member.{Member}
-use Rattle.node_command.specs.Journal.{end_line}
+use Rattle.turn_rules.specs.Journals.{end_line}
 use Rattle.node_command.specs.Members.{IsMember}
 use Rattle.node_command.specs.Opening.{Ends, EndsFronts, IsFound, Tells}
 use Rattle.ports.specs.Outside.{OfDisk}

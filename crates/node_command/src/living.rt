@@ -11,7 +11,8 @@ ghost use Rattle.node_loop.specs.Courses.{served_from};
 ghost use Rattle.node_command.specs.Halts.{IsBehind, IsServed, is_writable, is_write_fault};
 ghost use Rattle.std.specs.Io.KnownBytes.{Appends};
 ghost use Rattle.journal.specs.declared.event.Event as journal;
-ghost use Rattle.node_command.specs.Journal.{IsUnsent, Lives, environment, lines_of};
+ghost use Rattle.node_command.specs.Journal.{IsUnsent, Lives, environment};
+ghost use Rattle.turn_rules.specs.Lines.{lines_of};
 ghost use Rattle.node_command.specs.Spendings.{LifeSpends};
 
 use crate::halt::NodeHalt;

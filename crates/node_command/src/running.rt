@@ -207,8 +207,8 @@ pub fn run_node<S: Source, O: Sink, D: Disk, L: Link, C: Clock>(
         result }
     // Each whole line that was written and gives a removal is reported by a tick of the life, and rests on an accusation that was
     // accepted in it, verified, and stood for the timeout; or by a delivery, which accepts a note by which the member leaves, and
-    // verifies it; or by the call to leave, whose note the node signs. One that gives an accepted note or accusation or an expiry
-    // is so of the life, and neither these nor an own accusation are outdated by a note that the life accepted before.
+    // verifies it; or by the call to leave, whose note the node signs. One that gives an accepted record or an expiry is so of the
+    // life, and no accusation or expiry, nor an own accusation, is outdated by a note that the life accepted before.
     ensures rests { (feed : NetInputs) → (L.state link.old).contents ≡ Some feed.link
         → (C.state clock.old).coming ≡ Some feed.readings
         → (C.state clock.old).reading ≡ feed.reading → stay ≡ feed.stay

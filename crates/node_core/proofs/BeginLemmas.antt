@@ -10,7 +10,7 @@ use Rattle.ff_ids.specs.declared.summary.RecordKey.{RecordKey}
 use Rattle.ff_ids.specs.Lives.{opening as life_opening}
 use Rattle.membership.specs.Holds.{Holds}
 use Rattle.detector.specs.Silence.{opening}
-use Rattle.detector.specs.Kept.{StandsFor}
+use Rattle.detector.specs.Kept.{DrawsFor}
 use Rattle.record_set.specs.Held.{Held, key_cmp, held_under}
 use Rattle.std.specs.Ordering.{nat_cmp}
 use Rattle.validate.specs.Certified.{Certificates, certificate_of as kept_certificate}
@@ -53,9 +53,9 @@ use Rattle.node_core.specs.Playing.{Kept, IsNode, IsAt, setting_of}
 use Rattle.node_core.proofs.RollLemmas.{nil-end}
 use Rattle.std.proofs.Common.{length}
 
-pub started-is : (s : Setting) (seed : List ℕ) (certificates : List Record) (stored : Stored) → started s seed certificates stored ≡ signs s (first_note s stored) (opened s seed certificates stored)
+pub started-is : (s : Setting) (nonces : ℕ → ℕ) (certificates : List Record) (stored : Stored) → started s nonces certificates stored ≡ signs s (first_note s stored) (opened s nonces certificates stored)
 unfolding started
-started-is s seed certificates stored = refl
+started-is s nonces certificates stored = refl
 
 -- what stands behind what was reported before
 pub at-first : (s : Setting) (v : Kept) (c : Call) → IsNode s v c.node → c.told ≡ [] → c.sent ≡ [] → v.telling.before ≡ length v.telling.sent → IsAt s v.telling.events v.telling.sent v c
@@ -65,26 +65,26 @@ at-first s v c is told sent before =
 abbrev pub nothing_told : Tellings
 nothing_told = record { events = []; sent = []; before = 0; failed = false }
 
-state-blank : (s : Setting) (seed : List ℕ) (stored : Stored) → state_of s (blank s seed stored) ≡ life_opening []
+state-blank : (s : Setting) (nonces : ℕ → ℕ) (stored : Stored) → state_of s (blank s nonces stored) ≡ life_opening []
 unfolding state_of
-state-blank s seed stored = refl
+state-blank s nonces stored = refl
 
-pub none-blank : (s : Setting) (seed : List ℕ) (stored : Stored) (m : ℕ) → certificate_of (blank s seed stored) m ≡ None
+pub none-blank : (s : Setting) (nonces : ℕ → ℕ) (stored : Stored) (m : ℕ) → certificate_of (blank s nonces stored) m ≡ None
 unfolding certificate_of
-none-blank s seed stored m = refl
+none-blank s nonces stored m = refl
 
 -- a life with nothing but what its store keeps
-pub at-opening : (s : Setting) (seed : List ℕ) (v : Kept) → s ≡ setting_of v.group v.heal v.me v.authority v.signer.key → Holds v.membership (life_opening []) → v.records ≡ fin.empty → v.roster ≡ fin.empty
-    → StandsFor v.detector (opening v.group seed) → v.news ≡ [] → v.since ≡ v.signer.state.epoch + 1 → v.telling ≡ nothing_told → IsAt s [] [] v (begun (blank s seed v.signer.state))
-at-opening s seed v setting holds records roster probes news since told =
+pub at-opening : (s : Setting) (nonces : ℕ → ℕ) (v : Kept) → s ≡ setting_of v.group v.heal v.me v.authority v.signer.key → Holds v.membership (life_opening []) → v.records ≡ fin.empty → v.roster ≡ fin.empty
+    → DrawsFor v.detector (opening v.group nonces) → v.news ≡ [] → v.since ≡ v.signer.state.epoch + 1 → v.telling ≡ nothing_told → IsAt s [] [] v (begun (blank s nonces v.signer.state))
+at-opening s nonces v setting holds records roster probes news since told =
     record {
       is = record {
         setting = setting;
-        holds = subst (Holds v.membership) (sym (state-blank s seed v.signer.state)) holds;
+        holds = subst (Holds v.membership) (sym (state-blank s nonces v.signer.state)) holds;
         stored = refl;
         records = λ k. ap (λ (set : Held). option_map (λ x. x.rec) (held_under set k)) records ∙ ap (λ (o : Option CheckedRecord). option_map (λ x. x.rec) o) (fin.get-empty key_cmp k);
-        roster = λ m. ap (λ (r : Certificates). kept_certificate r m) roster ∙ fin.get-empty nat_cmp m ∙ sym (none-blank s seed v.signer.state m);
-        probes = subst (λ (g : Group). StandsFor v.detector (opening g seed)) (sym (setting-group s v.group v.heal v.me v.authority v.signer.key setting)) probes;
+        roster = λ m. ap (λ (r : Certificates). kept_certificate r m) roster ∙ fin.get-empty nat_cmp m ∙ sym (none-blank s nonces v.signer.state m);
+        probes = subst (λ (g : Group). DrawsFor v.detector (opening g nonces)) (sym (setting-group s v.group v.heal v.me v.authority v.signer.key setting)) probes;
         news = news;
         since = since;
       };
@@ -121,13 +121,13 @@ first-is s group heal me authority key stored setting =
     ap (λ (m : ℕ). next_note stored m (record { 0 = first_mask group.t stored.mask.0 })) (sym (setting-me s group heal me authority key setting))
     ∙ ap (λ (g : Group). next_note stored s.me (record { 0 = first_mask g.t stored.mask.0 })) (sym (setting-group s group heal me authority key setting))
 
-pub may-begin : (s : Setting) (seed : List ℕ) (certificates : List Record) (r : Ready) (p : Parts) (old : SignerState) (f : First) → s ≡ setting_of r.group r.heal r.me r.authority old.key
-    → HasOpened r.group seed certificates p → IsFirst old r.signer r.group.t r.me f → old.group ≡ r.group → p.roll ≡ r.roll → p.detector ≡ r.detector
-    → r.news.items ≡ [] → r.since ≡ old.state.epoch + 1 → r.index ≡ f.index → r.note ≡ f.note → r.rec ≡ f.rec → MayBegin s seed certificates old.state r
-may-begin s seed certificates r p old f setting has first same roll detector news since index note rec =
+pub may-begin : (s : Setting) (nonces : ℕ → ℕ) (certificates : List Record) (r : Ready) (p : Parts) (old : SignerState) (f : First) → s ≡ setting_of r.group r.heal r.me r.authority old.key
+    → HasOpened r.group nonces certificates p → IsFirst old r.signer r.group.t r.me f → old.group ≡ r.group → p.roll ≡ r.roll → p.detector ≡ r.detector
+    → r.news.items ≡ [] → r.since ≡ old.state.epoch + 1 → r.index ≡ f.index → r.note ≡ f.note → r.rec ≡ f.rec → MayBegin s nonces certificates old.state r
+may-begin s nonces certificates r p old f setting has first same roll detector news since index note rec =
     let o = has s r.heal r.me r.authority old setting in
     let b : Body = Note f.note in
-    let call = opened s seed certificates old.state in
+    let call = opened s nonces certificates old.state in
     let n : Node = (with_stored b call).node in
     let note-is : Note f.note ≡ Note r.note = ap (λ (n : NoteBody). Note n) (sym note) in
     let v : Tellings → Kept = kept_in r.group r.heal r.me r.authority old p in
@@ -152,14 +152,14 @@ certificates-all [] apart = tt
 certificates-all (r ∷ records) apart = ((apart.0.cert, apart.0.body), certificates-all records apart.1)
 
 -- the node has joined its own life
-pub own-joined : (group : Group) (me : ℕ) (authority : PublicKey) (signer : SignerState) (seed : List ℕ) (certificates : List Record) (p : Parts)
-    → HasOpened group seed certificates p → AreApart certificates → list_any (λ r. is_certificate_for me r.body) certificates ≡ true → has_joined p.roll.membership me ≡ true
-own-joined group me authority signer seed certificates p has apart own =
+pub own-joined : (group : Group) (me : ℕ) (authority : PublicKey) (signer : SignerState) (nonces : ℕ → ℕ) (certificates : List Record) (p : Parts)
+    → HasOpened group nonces certificates p → AreApart certificates → list_any (λ r. is_certificate_for me r.body) certificates ≡ true → has_joined p.roll.membership me ≡ true
+own-joined group me authority signer nonces certificates p has apart own =
     let s : Setting = setting_of group None me authority signer.key in
     let o = has s None me authority signer refl in
     let who : s.me ≡ me = setting-me s group None me authority signer.key refl in
-    let member = becomes_member s certificates (begun (blank s seed signer.state)) (certificates-all certificates apart) (subst (λ (m : ℕ). list_any (λ r. is_certificate_for m r.body) certificates ≡ true) (sym who) own) in
-    sym ((o.is nothing_told).holds.at_number me).member ∙ subst (λ (m : ℕ). is_member (state_of s (opened s seed certificates signer.state).node) m ≡ true) who member
+    let member = becomes_member s certificates (begun (blank s nonces signer.state)) (certificates-all certificates apart) (subst (λ (m : ℕ). list_any (λ r. is_certificate_for m r.body) certificates ≡ true) (sym who) own) in
+    sym ((o.is nothing_told).holds.at_number me).member ∙ subst (λ (m : ℕ). is_member (state_of s (opened s nonces certificates signer.state).node) m ≡ true) who member
 
 no-notes : (s : Setting) (me : ℕ) (records : List Record) (c : Call) → AllByRecursion (λ r. (x : CertBody) × (r.body ≡ Certificate x)) records → newest (state_of s c.node).notes me ≡ None
     → newest (state_of s (fold (λ (c : Call) r. takes s r c) c records).node).notes me ≡ None
@@ -171,13 +171,13 @@ no-notes s me (r ∷ records) c all h =
     no-notes s me records (takes s r c) all.1 (ap (λ (y : State). newest y.notes me) at ∙ (step-same s.group me st (Joins x.member (s.places x.member)) tt).note ∙ h)
 
 -- and has no note in it yet
-pub own-unnoted : (group : Group) (me : ℕ) (authority : PublicKey) (signer : SignerState) (seed : List ℕ) (certificates : List Record) (p : Parts)
-    → HasOpened group seed certificates p → AreApart certificates → fin.get p.roll.membership.notes me ≡ None
-own-unnoted group me authority signer seed certificates p has apart =
+pub own-unnoted : (group : Group) (me : ℕ) (authority : PublicKey) (signer : SignerState) (nonces : ℕ → ℕ) (certificates : List Record) (p : Parts)
+    → HasOpened group nonces certificates p → AreApart certificates → fin.get p.roll.membership.notes me ≡ None
+own-unnoted group me authority signer nonces certificates p has apart =
     let s : Setting = setting_of group None me authority signer.key in
     let o = has s None me authority signer refl in
     sym ((o.is nothing_told).holds.at_number me).newest_note
-    ∙ no-notes s me certificates (begun (blank s seed signer.state)) (certificates-all certificates apart) (ap (λ (y : State). newest y.notes me) (state-blank s seed signer.state))
+    ∙ no-notes s me certificates (begun (blank s nonces signer.state)) (certificates-all certificates apart) (ap (λ (y : State). newest y.notes me) (state-blank s nonces signer.state))
 
 note_is : (x y : NoteBody) → Note x ≡ Note y → x ≡ y
 note_is x y e = cc
@@ -197,5 +197,5 @@ sent-signs : (s : Setting) (b : Body) (c : Call) → (signs s b c).sent ≡ c.se
 unfolding signs takes lives
 sent-signs s b c = refl
 
-pub sent-started : (s : Setting) (seed : List ℕ) (certificates : List Record) (stored : Stored) → (opened s seed certificates stored).sent ≡ [] → (started s seed certificates stored).sent ≡ []
-sent-started s seed certificates stored none = ap (λ (c : Call). c.sent) (started-is s seed certificates stored) ∙ sent-signs s (first_note s stored) (opened s seed certificates stored) ∙ none
+pub sent-started : (s : Setting) (nonces : ℕ → ℕ) (certificates : List Record) (stored : Stored) → (opened s nonces certificates stored).sent ≡ [] → (started s nonces certificates stored).sent ≡ []
+sent-started s nonces certificates stored none = ap (λ (c : Call). c.sent) (started-is s nonces certificates stored) ∙ sent-signs s (first_note s stored) (opened s nonces certificates stored) ∙ none

@@ -13,24 +13,7 @@ use Rattle.gossip.specs.Partners as gossip
 use Rattle.node_rules.specs.Nodes.{Setting, Node, state_of, certified}
 use Rattle.node_rules.specs.Pages.{partner, page_number}
 use Rattle.node_core.specs.Playing.{Kept, IsNode}
-use Rattle.node_core.proofs.TellingLemmas.{nil-right}
-use Rattle.node_core.proofs.PlayLemmas.{filter-same, filter-append, range-more, setting-group, setting-me, setting-heal}
-
-pub filter-more : (q : ℕ → Bool) (n : ℕ) → cond (q n) (filter q (range_with_len 0 n) ++ n ∷ []) (filter q (range_with_len 0 n)) ≡ filter q (range_with_len 0 (n + 1))
-filter-more q n =
-    let split : filter q (range_with_len 0 (n + 1)) ≡ filter q (range_with_len 0 n) ++ filter q (n ∷ []) = ap (filter q) (range-more n) ∙ filter-append q (range_with_len 0 n) (n ∷ []) in
-    cond_both (q n) (filter q (range_with_len 0 n) ++ n ∷ []) (filter q (range_with_len 0 n)) (λ x. x ≡ filter q (range_with_len 0 (n + 1)))
-    (λ it. sym (split ∙ ap (λ b. filter q (range_with_len 0 n) ++ cond b (n ∷ []) []) it))
-    (λ off. sym (split ∙ ap (λ b. filter q (range_with_len 0 n) ++ cond b (n ∷ []) []) off ∙ nil-right (filter q (range_with_len 0 n))))
-
-last-push : (o : Option ℕ) (xs : List ℕ) (x : ℕ) → last_or o (xs ++ x ∷ []) ≡ Some x
-last-push o [] x = refl
-last-push o (y ∷ xs) x = last-push (Some y) xs x
-
-pub last-more : (xs : List ℕ) (i x : ℕ) → i < length xs → x ≡ get_or xs i x → x ≡ unwrap_or (last_or None (take (i + 1) xs)) 0
-last-more xs i x within here =
-    let longer : take (i + 1) xs ≡ take i xs ++ x ∷ [] = take_more xs i x within ∙ ap (λ (y : ℕ). take i xs ++ y ∷ []) (sym here) in
-    sym (ap (λ o. unwrap_or o 0) (ap (last_or None) longer ∙ last-push None (take i xs) x))
+use Rattle.node_core.proofs.PlayLemmas.{filter-same, setting-group, setting-me, setting-heal}
 
 certified-is : (s : Setting) (v : Kept) (n : Node) (numbers : List ℕ) → IsNode s v n → numbers ≡ filter (λ m. is_some (kept_certificate v.roster m)) all_numbers → numbers ≡ certified n
 certified-is s v n numbers is listed = listed ∙ filter-same _ _ all_numbers (λ m. ap is_some (is.roster m))

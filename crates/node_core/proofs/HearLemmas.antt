@@ -7,7 +7,7 @@ use Rattle.records.specs.declared.CertBody.{CertBody}
 use Rattle.validate.specs.Certified.{certificate_of as kept_certificate}
 use Rattle.datagram.specs.declared.Datagram.{Datagram}
 use Rattle.detector.specs.Silence.{History, counts, ponged}
-use Rattle.detector.specs.Kept.{Kept as Probing, StandsFor}
+use Rattle.detector.specs.Kept.{Kept as Probing, DrawsFor}
 use Rattle.journal.specs.declared.event.Event as journal
 use Rattle.journal.specs.declared.event.What.TheVariants as told
 use Rattle.node_rules.specs.Nodes.{Setting, Node, state_of, certificate_of, is_certified}
@@ -51,7 +51,7 @@ abbrev pub with_probes : History → Call → Call
 with_probes h c = record c { node = record c.node { probes = h } }
 
 pub probed-at : (s : Setting) (es : List journal.Event) (os : List (ℕ × List ℕ)) (v : Kept) (c : Call) (d : Probing) (h : History)
-    → Plays s es os v c → ((is : IsNode s v c.node) → StandsFor d h) → Plays s es os (record v { detector = d }) (with_probes h c)
+    → Plays s es os v c → ((is : IsNode s v c.node) → DrawsFor d h) → Plays s es os (record v { detector = d }) (with_probes h c)
 unfolding state_of certificate_of
 probed-at s es os v c d h p stands = record {
   at = λ fine.

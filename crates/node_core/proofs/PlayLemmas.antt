@@ -12,7 +12,7 @@ use Rattle.std.proofs.lemmas.Cmp.{nat_cmp_total}
 use Rattle.ff_ids.specs.declared.TheConstants.{MEMBERS}
 use Rattle.ff_ids.specs.declared.RingNo.{RingNo}
 use Rattle.ring_order.specs.Hashed.{hashed_places}
-use Rattle.node_core.proofs.TellingLemmas.{front-refl, front-trans, nil-right, map-append}
+use Rattle.node_core.proofs.TellingLemmas.{front-refl, front-trans, nil-right}
 use Rattle.ff_ids.specs.declared.Group.{Group}
 use Rattle.ff_ids.specs.Heals.{Heal}
 use Rattle.ff_ids.specs.declared.NoteBody.{NoteBody}
@@ -36,7 +36,7 @@ use Rattle.records.specs.Signing.{CheckedRecord}
 use Rattle.validate.specs.Certified.{Certificates, certificate_of as kept_certificate}
 use Rattle.record_set.specs.Held.{Held, key_cmp, key_of, held_under, with_option, retired}
 use Rattle.record_set.proofs.KeyLemmas.{key_cmp_total}
-use Rattle.detector.specs.Kept.{StandsFor}
+use Rattle.detector.specs.Kept.{DrawsFor}
 use Rattle.journal.specs.declared.event.Event as journal
 use Rattle.node_rules.specs.Nodes.{Setting, Node, Holding, state_of, event_of, with_record, without, without_ended, moved, retires, without_removal, with_news, key_of_accusation, certificate_in, certificate_of}
 use Rattle.node_rules.specs.Calls.{Call, tells, lives, takes, told_of, sends, sends_to_all}
@@ -49,7 +49,7 @@ use Rattle.journal.specs.declared.event.What.TheVariants as told
 use Rattle.node_rules.specs.Nodes.{neighbours, neighbours_and}
 use Rattle.node_core.specs.Neighbours.{addressees}
 use Rattle.ff_ids.specs.Masks.{ring_count}
-use Rattle.ff_ids.proofs.MaskLemmas.{range_with_len-push}
+use Rattle.peers.proofs.RangeLemmas.{range-more}
 use Rattle.std.specs.List.{list_any, range_with_len}
 use Rattle.node_rules.proofs.Small.{state_of-lives}
 use Rattle.node_rules.proofs.OwnKey.{ended-certificate, removal-certificate}
@@ -311,7 +311,7 @@ lives-at s es os v c e life records t r p steps kept told fine =
         stored = n.stored ∙ sym (kept-lives s e c).0;
         records = ended;
         roster = λ m. n.roster m ∙ sym (certificate-lives s e c m);
-        probes = subst (StandsFor v.detector) (sym (kept-lives s e c).1) n.probes;
+        probes = subst (DrawsFor v.detector) (sym (kept-lives s e c).1) n.probes;
         news = n.news ∙ sym (news-lives s e c);
         since = n.since ∙ sym (since-lives s e c);
       };
@@ -723,15 +723,6 @@ filter-append p (x ∷ xs) ys =
 fold-append : {A B : Type 0} (f : B → A → B) (b : B) (xs ys : List A) → fold f b (xs ++ ys) ≡ fold f (fold f b xs) ys
 fold-append f b [] ys = refl
 fold-append f b (x ∷ xs) ys = fold-append f (f b x) xs ys
-
-pub range-more : (n : ℕ) → range_with_len 0 (n + 1) ≡ range_with_len 0 n ++ n ∷ []
-range-more n =
-    let next : n + 1 ≡ suc n = omega arith in
-    let last : 0 + n ≡ n = omega arith in
-    ap (λ (k : ℕ). range_with_len 0 k) next ∙ range_with_len-push 0 n ∙ ap (λ (k : ℕ). range_with_len 0 n ++ k ∷ []) last
-
-pub map-more : {Y : Type 0} (f : ℕ → Y) (n : ℕ) → map f (range_with_len 0 (n + 1)) ≡ map f (range_with_len 0 n) ++ f n ∷ []
-map-more f n = ap (map f) (range-more n) ∙ map-append f (range_with_len 0 n) (n ∷ [])
 
 -- one more number
 pub sends-more : (s : Setting) (listed : List (Option ℕ)) (n : ℕ) (d : Datagram) (c : Call)

@@ -24,8 +24,8 @@ unfolding signs takes lives
 signs-stored s b c = refl
 
 -- the life that starts keeps what its first note leaves
-pub started-stored : (s : Setting) (seed : List ℕ) (certificates : List Record) (stored : Stored) → (started s seed certificates stored).node.stored ≡ kept_first s.group.t s.me stored
-started-stored s seed certificates stored =
-    ap (λ (c : Call). c.node.stored) (started-is s seed certificates stored)
-    ∙ signs-stored s (first_note s stored) (opened s seed certificates stored)
-    ∙ ap (λ (k : Stored). stored_after k (first_note s stored)) (all-stored s certificates (begun (blank s seed stored)))
+pub started-stored : (s : Setting) (nonces : ℕ → ℕ) (certificates : List Record) (stored : Stored) → (started s nonces certificates stored).node.stored ≡ kept_first s.group.t s.me stored
+started-stored s nonces certificates stored =
+    ap (λ (c : Call). c.node.stored) (started-is s nonces certificates stored)
+    ∙ signs-stored s (first_note s stored) (opened s nonces certificates stored)
+    ∙ ap (λ (k : Stored). stored_after k (first_note s stored)) (all-stored s certificates (begun (blank s nonces stored)))

@@ -7,7 +7,7 @@ use Rattle.ff_ids.specs.declared.Group.{Group}
 use Rattle.ff_ids.specs.Views.{State}
 use Rattle.ff_ids.specs.Steps.{Ticks}
 use Rattle.membership.specs.Holds.{Holds}
-use Rattle.detector.specs.Kept.{Kept as Probing, StandsFor}
+use Rattle.detector.specs.Kept.{Kept as Probing, DrawsFor}
 use Rattle.detector.specs.Silence.{History, silent as silent_of, pings as pings_of, ticked as probed}
 use Rattle.detector.specs.Watching.{watched}
 use Rattle.epoch_store.specs.declared.Stored.{Stored}
@@ -181,8 +181,8 @@ grows-ticked a b d since h =
 -- what the code has of a tick behind that of the life
 pub record Sees (v : Kept) (s : Setting) (n : Node) (d : Probing) (since : ℕ) (due : Bool) : Type 0 where
   pub due_is : due ≡ is_due s (state_of s n)
-  pub probes : (h : History) (st : State) → StandsFor v.detector h → Holds v.membership st
-      → StandsFor d (probed h due (watched v.detector.group.t st v.me))
+  pub probes : (h : History) (st : State) → DrawsFor v.detector h → Holds v.membership st
+      → DrawsFor d (probed h due (watched v.detector.group.t st v.me))
   pub begins : Bool
   pub begins_is : begins ≡ begins_span s (state_of s n)
   pub since_is : since ≡ cond begins v.signer.state.epoch v.since
@@ -203,7 +203,7 @@ seen-at s es os v c d since due at same h =
         stored = n.stored;
         records = n.records;
         roster = n.roster;
-        probes = subst (λ (b : Bool). StandsFor d (probed c.node.probes b (watched_by s (state_of s c.node)))) h.due_is (subst (λ ws. StandsFor d (probed c.node.probes due ws)) (watched-same s v c.node n same) stands);
+        probes = subst (λ (b : Bool). DrawsFor d (probed c.node.probes b (watched_by s (state_of s c.node)))) h.due_is (subst (λ ws. DrawsFor d (probed c.node.probes due ws)) (watched-same s v c.node n same) stands);
         news = n.news;
         since = h.since_is ∙ ap (λ (b : Bool). cond b v.signer.state.epoch v.since) h.begins_is ∙ ap (λ (x : Stored). cond begins x.epoch v.since) n.stored ∙ ap (λ (k : ℕ). cond begins c.node.stored.epoch k) n.since;
       };

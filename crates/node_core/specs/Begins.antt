@@ -56,15 +56,15 @@ kept_in group heal me authority signer p told =
     }
 
 -- A node with these parts stands where a life does that has taken these certificates.
-pub record StandsOpened (s : Setting) (seed : List ℕ) (certificates : List Record) (stored : Stored) (v : Tellings → Kept) : Type 0 where
-  pub is : (told : Tellings) → IsNode s (v told) (opened s seed certificates stored).node
-  pub told_none : (opened s seed certificates stored).told ≡ []
-  pub sent_none : (opened s seed certificates stored).sent ≡ []
+pub record StandsOpened (s : Setting) (nonces : ℕ → ℕ) (certificates : List Record) (stored : Stored) (v : Tellings → Kept) : Type 0 where
+  pub is : (told : Tellings) → IsNode s (v told) (opened s nonces certificates stored).node
+  pub told_none : (opened s nonces certificates stored).told ≡ []
+  pub sent_none : (opened s nonces certificates stored).sent ≡ []
 
-abbrev pub HasOpened : Group → List ℕ → List Record → Parts → Type 0
-HasOpened group seed certificates p =
+abbrev pub HasOpened : Group → (ℕ → ℕ) → List Record → Parts → Type 0
+HasOpened group nonces certificates p =
     (s : Setting) (heal : Option Heal) (me : ℕ) (authority : PublicKey) (signer : SignerState) → s ≡ setting_of group heal me authority signer.key
-    → StandsOpened s seed certificates signer.state (kept_in group heal me authority signer p)
+    → StandsOpened s nonces certificates signer.state (kept_in group heal me authority signer p)
 
 pub record AreOf (group : Group) (p : Parts) : Type 0 where
   pub membership : p.roll.membership.group ≡ group
@@ -91,13 +91,13 @@ kept_by r told =
 
 -- It stands where a life does that has taken these certificates, and whose store keeps an index more: the first note is
 -- signed.
-pub record MayBegin (s : Setting) (seed : List ℕ) (certificates : List Record) (stored : Stored) (r : Ready) : Type 0 where
-  pub is : (told : Tellings) → IsNode s (kept_by r told) (with_stored (Note r.note) (opened s seed certificates stored)).node
+pub record MayBegin (s : Setting) (nonces : ℕ → ℕ) (certificates : List Record) (stored : Stored) (r : Ready) : Type 0 where
+  pub is : (told : Tellings) → IsNode s (kept_by r told) (with_stored (Note r.note) (opened s nonces certificates stored)).node
   pub first : Note r.note ≡ first_note s stored
-  pub index : r.index ≡ (opened s seed certificates stored).node.stored.next
-  pub own : r.rec.rec ≡ own_record s (opened s seed certificates stored).node (Note r.note)
-  pub told_none : (opened s seed certificates stored).told ≡ []
-  pub sent_none : (opened s seed certificates stored).sent ≡ []
+  pub index : r.index ≡ (opened s nonces certificates stored).node.stored.next
+  pub own : r.rec.rec ≡ own_record s (opened s nonces certificates stored).node (Note r.note)
+  pub told_none : (opened s nonces certificates stored).told ≡ []
+  pub sent_none : (opened s nonces certificates stored).sent ≡ []
 
 -- ---- the first signature
 
@@ -187,7 +187,7 @@ pub record IsVouchable (s : Setting) (own : Key) (certificates : List Record) (s
 -- ---- the life
 
 -- The node is where a life begins with these certificates and this store, and reports what that reports. Nothing is sent.
-pub record Starts (s : Setting) (seed : List ℕ) (certificates : List Record) (stored : Stored) (v : Kept) (before after : List journal.Event) : Type 0 where
-  pub is : IsNode s v (started s seed certificates stored).node
-  pub told : after ≡ before ++ (started s seed certificates stored).told
-  pub sent : (started s seed certificates stored).sent ≡ []
+pub record Starts (s : Setting) (nonces : ℕ → ℕ) (certificates : List Record) (stored : Stored) (v : Kept) (before after : List journal.Event) : Type 0 where
+  pub is : IsNode s v (started s nonces certificates stored).node
+  pub told : after ≡ before ++ (started s nonces certificates stored).told
+  pub sent : (started s nonces certificates stored).sent ≡ []

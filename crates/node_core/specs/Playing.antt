@@ -20,7 +20,7 @@ use Rattle.membership.specs.Life.{Life, has_joined}
 use Rattle.membership.specs.Holds.{Holds}
 use Rattle.validate.specs.Certified.{Certificates, certificate_of as kept_certificate}
 use Rattle.signer.specs.Signing.{SignerState}
-use Rattle.detector.specs.Kept.{Kept as Probing, StandsFor}
+use Rattle.detector.specs.Kept.{Kept as Probing, DrawsFor}
 use Rattle.record_set.specs.Held.{Held, held_under}
 use Rattle.journal.specs.declared.event.Event as journal
 use Rattle.node_rules.specs.Nodes.{Setting, Node, Holding, state_of, certificate_of}
@@ -69,7 +69,7 @@ pub record IsNode (s : Setting) (v : Kept) (n : Node) : Type 0 where
   pub stored : v.signer.state ≡ n.stored
   pub records : HoldsRecords v.records n.held
   pub roster : (m : ℕ) → kept_certificate v.roster m ≡ certificate_of n m
-  pub probes : StandsFor v.detector n.probes
+  pub probes : DrawsFor v.detector n.probes
   pub news : v.news ≡ n.news
   pub since : v.since ≡ n.since
 

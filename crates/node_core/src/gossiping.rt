@@ -1,7 +1,6 @@
 //! Pings and the summary of a due tick.
 
-ghost use Rattle.std.specs.Prelude.{◌≡◌, ℕ, ◌≤◌, ◌<◌, ◌++◌, List, IfOk, OnErr, IfSome, is_some, filter, length, if◌then◌else◌, ◌∷◌, [], None, unwrap_or};
-ghost use Rattle.std.specs.List.{slice_get, last_or};
+ghost use Rattle.std.specs.Prelude.{◌≡◌, ℕ, ◌<◌, List, IfSome, is_some, filter};
 ghost use Rattle.std.specs.Option.{option_map};
 ghost use Rattle.ff_ids.specs.declared.TheConstants.{PAGES};
 ghost use Rattle.ff_ids.specs.Views.{all_numbers};
@@ -18,51 +17,10 @@ ghost use Rattle.node_core.specs.Spending.{SignsNothing};
 use crate::Node;
 use crate::hearing::bytes_of;
 use datagram::Datagram;
-use ff_ids::{MEMBERS, MemberId};
-use fields::NoMemory;
+use ff_ids::MemberId;
 use gossip::{Exchange, exchange_of};
+use peers::{certified, highest};
 use std::alloc::Global;
-use validate::Roster;
-
-/// Lists the member, if it has a certificate.
-fn list_certified(
-    roster: &Roster,
-    member: MemberId,
-    listed: &mut Vec<MemberId>,
-) -> Result<(), NoMemory>
-    ensures { IfOk result (λ done. listed.new.items
-        ≡ (if is_some (certificate_of roster.now member) then listed.old.items ++ member ∷ [] else
-        listed.old.items)) }
-{
-    if roster.get(member).is_some() {
-        listed.push(member)?;
-    }
-    Ok(())
-}
-
-/// Those with a certificate, in order of number.
-fn certified(alloc: Global, roster: &Roster) -> Result<Vec<MemberId>, NoMemory>
-    ensures { IfOk result
-        (λ listed. listed.items
-        ≡ filter (λ m. is_some (certificate_of roster.now m)) all_numbers) }
-{
-    let mut listed = Vec::new(alloc);
-    for number in 0..MEMBERS {
-        list_certified(roster, MemberId::new(number), &mut listed)?;
-    }
-    Ok(listed)
-}
-
-/// The last of the numbers, 0 where there is none.
-fn highest(numbers: &[MemberId]) -> MemberId
-    ensures { result ≡ unwrap_or (last_or None numbers.now) 0 }
-{
-    let mut last = MemberId::new(0);
-    for member in numbers {
-        last = *member;
-    }
-    last
-}
 
 impl Node {
     /// A ping with this nonce goes to the member.

@@ -1,12 +1,8 @@
 //! Datagrams that go out.
 
-ghost use Rattle.std.specs.Prelude.{◌≡◌, ℕ, ◌≤◌, ◌<◌, ◌++◌, ◌∷◌, List, Option, IfOk, [], length, take, map, true, if◌then◌else◌};
-ghost use Rattle.std.specs.List.{list_any, range_with_len};
-ghost use Rattle.ff_ids.specs.declared.TheConstants.{MAX_TOLERANCE};
-ghost use Rattle.ff_ids.specs.Masks.{ring_count};
-ghost use Rattle.ff_ids.specs.Views.{State, successor, is_number};
-ghost use Rattle.membership.specs.Life.{has_joined};
-ghost use Rattle.membership.specs.Holds.{Holds};
+ghost use Rattle.std.specs.Prelude.{◌≡◌, ℕ, ◌++◌, ◌∷◌, List, Option, IfOk, [], length, take, if◌then◌else◌};
+ghost use Rattle.std.specs.List.{list_any};
+ghost use Rattle.ff_ids.specs.Views.{is_number};
 ghost use Rattle.journal.specs.declared.event.Event as journal;
 ghost use Rattle.records.specs.Spelling.{IsWritable};
 ghost use Rattle.datagram.specs.declared.Datagram.{Datagram as Sending};
@@ -19,11 +15,10 @@ ghost use Rattle.node_core.specs.Spending.{SignsNothing};
 ghost use Rattle.node_core.specs.Neighbours.{addressees};
 
 use crate::Node;
-use arrayvec::ArrayVec;
 use datagram::records_head;
-use ff_ids::{MAX_RINGS, MEMBERS, MemberId, RingNo};
+use ff_ids::{MEMBERS, MemberId};
 use fields::NoMemory;
-use membership::Membership;
+use peers::{is_listed, list_successors};
 use records::{Record, write_record};
 use std::alloc::Global;
 
@@ -37,42 +32,6 @@ pub(crate) fn datagram_of(alloc: Global, from: MemberId, rec: &Record) -> Result
     bytes.extend_from_slice(&records_head(from, 1))?;
     write_record(rec, &mut bytes)?;
     Ok(bytes)
-}
-
-/// How many members a record goes to at most: one on each ring, and one more.
-const RECIPIENTS: usize = MAX_RINGS as usize + 1;
-
-/// The successors of the member on each ring, behind one more.
-fn list_successors(
-    membership: &Membership,
-    me: MemberId,
-    also: Option<MemberId>,
-) -> ArrayVec<Option<MemberId>, RECIPIENTS>
-    requires joined { has_joined membership.now me ≡ true }
-    requires few { membership.now.group.t ≤ MAX_TOLERANCE }
-    ensures { (st : State) → Holds membership.now st
-        → result.items
-        ≡ also ∷ map (λ ring. successor st ring me)
-        (range_with_len 0 (ring_count membership.now.group.t)) }
-{
-    let mut listed = ArrayVec::new();
-    listed.push(also);
-    for ring in 0..2 * membership.group().t + 1 {
-        listed.push(membership.successor(RingNo(ring), me));
-    }
-    listed
-}
-
-/// Whether the member is listed.
-fn is_listed(listed: &[Option<MemberId>], member: MemberId) -> bool
-    ensures { result ≡ list_any (λ o. is_number o member) listed.now }
-{
-    for one in listed {
-        if *one == Some(member) {
-            return true;
-        }
-    }
-    false
 }
 
 impl Node {

@@ -11,6 +11,7 @@ ghost use Rattle.records.specs.declared.Record.{Record as Recorded};
 ghost use Rattle.records.specs.declared.Body.TheVariants as bodies;
 ghost use Rattle.epoch_store.specs.declared.Stored.{Stored};
 ghost use Rattle.epoch_store.specs.Seat.{next_seat};
+ghost use Rattle.detector.specs.Silence.{nonce};
 ghost use Rattle.node_rules.specs.Nodes.{Setting};
 ghost use Rattle.node_rules.specs.Replies.{first_mask as mask_at_first};
 ghost use Rattle.node_rules.specs.Calls.{Call};
@@ -73,7 +74,8 @@ fn open_parts(
     requires misses { group.now.misses ≤ 16 }
     requires certificates { All (IsCertificateFor group.now.t) certificates.items }
     requires apart { AreApart (recs_of certificates.items) }
-    ensures opened { IfOk result (λ p. HasOpened group.now seed (recs_of certificates.items) p) }
+    ensures opened { IfOk result (λ p. HasOpened group.now (nonce seed)
+        (recs_of certificates.items) p) }
     ensures groups { IfOk result (λ p. AreOf group.now p) }
     ensures notes { IfOk result (λ p. HoldsNotes p.roll.membership p.roll.records) }
 {
@@ -179,7 +181,7 @@ fn make_ready<D: Disk>(
     ensures tolerance { IfOk result (λ r. r.rec.t ≡ r.group.t) }
     ensures begins { IfOk result
         (λ r. (s : Setting) → s ≡ setting_of kit.group kit.heal kit.me kit.authority signer.key
-        → MayBegin s kit.nonce_seed (recs_of kit.certificates.items) signer.state r) }
+        → MayBegin s (nonce kit.nonce_seed) (recs_of kit.certificates.items) signer.state r) }
     ensures cause { IfErr result (λ e. MayRefuse signer e) }
     ensures free { IfOk result (λ r. signer.state.next < index_count signer.key) }
     ensures closed { IfOk result (λ r. r.signer.closed ≡ false) }
@@ -242,9 +244,9 @@ impl Ready {
         requires body { self.rec.rec.body ≡ bodies.Note self.note }
         requires tolerance { self.rec.t ≡ self.group.t }
         requires before { telling.before ≡ length telling.sent }
-        ensures plays { (s : Setting) (seed : List ℕ) (certificates : List Recorded)
-            (stored : Stored) → MayBegin s seed certificates stored self
-            → Plays s telling.events telling.sent result (started s seed certificates stored) }
+        ensures plays { (s : Setting) (nonces : ℕ → ℕ) (certificates : List Recorded)
+            (stored : Stored) → MayBegin s nonces certificates stored self
+            → Plays s telling.events telling.sent result (started s nonces certificates stored) }
         ensures front { IsPrefix telling.events result.telling.events }
         ensures going { result.ended ≡ false }
         ensures signer { result.signer ≡ self.signer }
@@ -331,8 +333,8 @@ impl Node {
         requires open { signer.closed ≡ false }
         ensures starts { IfOk result
             (λ node. (s : Setting) → s ≡ setting_of kit.group kit.heal kit.me kit.authority signer.key
-            → Starts s kit.nonce_seed (recs_of kit.certificates.items) signer.state node events.old
-            events.new) }
+            → Starts s (nonce kit.nonce_seed) (recs_of kit.certificates.items) signer.state node
+            events.old events.new) }
         ensures vouchable { IfOk result
             (λ node. (s : Setting) → s ≡ setting_of kit.group kit.heal kit.me kit.authority signer.key
             → IsVouchable s (public_key signer.key) (recs_of kit.certificates.items) signer.state) }

@@ -28,8 +28,9 @@ use Rattle.node_rules.specs.OnDisks.{Input, Ticks, IsCut}
 use Rattle.node_rules.specs.Lives.{call_of}
 use Rattle.node_loop.specs.declared.fault.ServeFault.{ServeFault}
 use Rattle.node_loop.specs.declared.fault.ServeFault.TheVariants as faults
-use Rattle.node_loop.specs.Turns.{Act, Calls}
-use Rattle.node_loop.specs.Courses.{ServeState, acted, gives, may_tick, moves, served, tells_all}
+use Rattle.turn_rules.specs.Turns.{Act, Calls}
+use Rattle.node_loop.specs.Courses.{ServeState, acted, gives, moves, served, tells_all}
+use Rattle.turn_rules.specs.Courses.{may_tick}
 use Rattle.node_loop.specs.Writing.{Answers, Before, Extends, IsAt, IsBeyond, IsWithin, Settles, Standing, Stands, Tells, standing}
 use Rattle.node_loop.specs.Serving.{IsStarved, IsStopped, KeepsHeld, Serves, starves}
 use Rattle.node_loop.proofs.CourseLemmas.{Grows, grows-refl, grows-tells_all, node-gives, served-cons, served-nil, tells_all-append}

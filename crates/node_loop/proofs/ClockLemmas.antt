@@ -11,7 +11,8 @@ use Rattle.journal.specs.declared.turn.Heard.{Heard}
 use Rattle.journal.specs.declared.turn.Heard.TheVariants as heard
 use Rattle.journal.specs.declared.turn.Turn.{Turn}
 use Rattle.node_loop.specs.declared.turns.Pace.{Pace}
-use Rattle.node_loop.specs.Turns.{Act, LivesFollowTheClock, Outlook, after_turn, delivery_of, forgotten_in, is_tick, kept_of, leaving_acts, life_acts, most_ticks, reading_behind, reading_of, ticks_among, ticks_in, ticks_of, turn_acts, turn_in, turns_from}
+use Rattle.turn_rules.specs.Turns.{Act, delivery_of, leaving_acts, most_ticks, ticks_of, turn_acts}
+use Rattle.node_loop.specs.Turns.{LivesFollowTheClock, Outlook, after_turn, forgotten_in, is_tick, kept_of, life_acts, reading_behind, reading_of, ticks_among, ticks_in, turn_in, turns_from}
 
 -- ---- ticks among acts
 

@@ -11,9 +11,11 @@ use Rattle.journal.specs.declared.event.What as whats
 use Rattle.node_rules.specs.Nodes.{Setting, Node}
 use Rattle.node_rules.specs.Calls.{Call}
 use Rattle.node_rules.specs.Lives.{Input, Delivers, Ticks, Leaves, call_of}
-use Rattle.node_loop.specs.Turns.{Act, Receives, Writes, Calls, delivery_of, ticks_of, turn_acts}
+use Rattle.turn_rules.specs.Turns.{Act, Receives, Writes, Calls, delivery_of, ticks_of, turn_acts}
 use Rattle.journal.specs.Turns.{turn_text}
-use Rattle.node_loop.specs.Courses.{ServeState, with_feed, writes, writes_event, hands_over, fails_next, sends_one, datagram_in, tells_what, tells, tells_all, moves, gives, may_tick, called, acted, served}
+use Rattle.node_loop.specs.Courses.{ServeState, writes, writes_event, hands_over, fails_next, sends_one, tells_what, tells, tells_all, moves, gives, called, acted, served}
+use Rattle.turn_rules.specs.Lines.{with_feed}
+use Rattle.turn_rules.specs.Courses.{datagram_in, may_tick}
 
 pub front-refl : {X : Type 0} (xs : List X) → IsPrefix xs xs
 front-refl xs = record { more = []; is = sym (append-nil xs) }
@@ -90,7 +92,7 @@ grows-called s Ticks r = grows-cond (may_tick s r.node) r _ r (grows-gives (call
 
 grows-acted : (s : Setting) (r : ServeState) (act : Act) → Grows r (acted s r act)
 grows-acted s r Receives = record { text = front-refl r.text; given = front-refl r.link.given; spent = front-refl r.spent }
-grows-acted s r (Writes line) = grows-writes (with_feed line) r
+grows-acted s r (Writes turn) = grows-writes (with_feed (turn_text turn)) r
 grows-acted s r (Calls input) = grows-called s input r
 
 grows-folded : (s : Setting) (acts : List Act) (r : ServeState) → Grows r (fold (acted s) r acts)
@@ -162,8 +164,8 @@ pub coming-turn : (s : Setting) (turn : Turn) (r : ServeState) → (served s (tu
 coming-turn s turn r =
     let rest = delivery_of turn.heard ++ ticks_of turn.ticks in
     let r1 = acted s r Receives in
-    let r2 = acted s r1 (Writes (turn_text turn)) in
-    ap (λ (x : ServeState). x.link.coming) (served-cons s Receives (Writes (turn_text turn) ∷ rest) r ∙ served-cons s (Writes (turn_text turn)) rest r1 ∙ served-append s (delivery_of turn.heard) (ticks_of turn.ticks) r2)
+    let r2 = acted s r1 (Writes turn) in
+    ap (λ (x : ServeState). x.link.coming) (served-cons s Receives (Writes turn ∷ rest) r ∙ served-cons s (Writes turn) rest r1 ∙ served-append s (delivery_of turn.heard) (ticks_of turn.ticks) r2)
     ∙ coming-ticks s turn.ticks (served s (delivery_of turn.heard) r2) ∙ coming-delivery s turn.heard r2
 
 -- ---- what is reported leaves the node

@@ -14,9 +14,11 @@ use Rattle.node_core.specs.Told.{is_loss}
 use Rattle.node_core.proofs.SpendLemmas.{told-append}
 use Rattle.node_loop.specs.declared.fault.ServeFault.{ServeFault}
 use Rattle.node_loop.specs.declared.fault.ServeFault.TheVariants as faults
-use Rattle.node_loop.specs.Courses.{ServeState, line_of, writes}
+use Rattle.node_loop.specs.Courses.{ServeState, writes}
+use Rattle.turn_rules.specs.Lines.{line_of}
 use Rattle.node_loop.specs.Gathering.{GathersLine, IsAtBut, IsOwed, OwesSpent, SpentBut, TellsBut, WritesBehind}
-use Rattle.node_loop.specs.Lines.{OfEvent, WritesSpent, WroteFront, bytes_of, spent_in}
+use Rattle.turn_rules.specs.Lines.{OfEvent, bytes_of}
+use Rattle.node_loop.specs.Lines.{WritesSpent, WroteFront, spent_in}
 use Rattle.node_loop.specs.Writing.{Before, Extends, IsAt, IsWithin, Standing, Tells, WritesLine, standing}
 use Rattle.node_loop.proofs.CourseLemmas.{front-refl, grows-writes}
 use Rattle.node_loop.proofs.TellLemmas.{keeps-refl, within-grows}

@@ -11,3 +11,4 @@ pub mod TurnLemmas
 pub mod ClockLemmas
 mod ExpectLemmas
 mod Rows
+pub mod JournalLemmas

@@ -19,8 +19,9 @@ use Rattle.node_core.specs.Told.{IsPrefix}
 use Rattle.node_core.proofs.SpendLemmas.{lives-same, lives-trans}
 use Rattle.node_loop.specs.declared.fault.ServeFault.{ServeFault}
 use Rattle.node_loop.specs.declared.fault.ServeFault.TheVariants as faults
-use Rattle.node_loop.specs.Courses.{datagram_in}
-use Rattle.node_loop.specs.Lines.{GoesOn, JournalLine, OfEvent, OfTurn, WritesLines, WritesSpent, WroteFront, bytes_of, faults_behind, is_link_fault, line_bytes, spent_in, spent_on}
+use Rattle.turn_rules.specs.Courses.{datagram_in}
+use Rattle.node_loop.specs.Lines.{GoesOn, WritesLines, WritesSpent, WroteFront, faults_behind, is_link_fault, spent_in, spent_on}
+use Rattle.turn_rules.specs.Lines.{JournalLine, OfEvent, OfTurn, bytes_of, line_bytes}
 use Rattle.node_loop.specs.Writing.{Answers, WritesLine, has_failed}
 
 abbrev Answer : Type 0

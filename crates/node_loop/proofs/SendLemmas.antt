@@ -9,7 +9,9 @@ use Rattle.journal.specs.declared.event.What.TheVariants as kinds
 use Rattle.node_core.specs.Playing.{Kept}
 use Rattle.node_loop.specs.declared.fault.ServeFault.{ServeFault}
 use Rattle.node_loop.specs.declared.fault.ServeFault.TheVariants as faults
-use Rattle.node_loop.specs.Courses.{ServeState, datagram_in, fails_next, hands_over, line_of, sends_one, tells, tells_all, tells_what, writes, writes_event}
+use Rattle.node_loop.specs.Courses.{ServeState, fails_next, hands_over, sends_one, tells, tells_all, tells_what, writes, writes_event}
+use Rattle.turn_rules.specs.Courses.{datagram_in}
+use Rattle.turn_rules.specs.Lines.{line_of}
 use Rattle.node_loop.specs.Gathering.{GathersLine, IsAtBut, TellsBut, WritesBehind}
 use Rattle.node_loop.specs.Writing.{Before, Extends, IsAt, IsWithin, Standing, Tells, standing}
 use Rattle.node_loop.proofs.CourseLemmas.{Grows, grows-sent, grows-tells_all, tells_all-append}

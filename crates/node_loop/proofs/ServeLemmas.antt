@@ -5,7 +5,7 @@ use Rattle.node_rules.specs.OnDisks.{IsCut}
 use Rattle.node_rules.specs.Lives.{call_of}
 use Rattle.node_loop.specs.declared.fault.ServeFault.{ServeFault}
 use Rattle.node_loop.specs.declared.fault.ServeFault.TheVariants as faults
-use Rattle.node_loop.specs.Turns.{Act, Calls}
+use Rattle.turn_rules.specs.Turns.{Act, Calls}
 use Rattle.node_loop.specs.Courses.{ServeState, gives, served, tells_all}
 use Rattle.node_loop.specs.Writing.{Before, IsBeyond, IsWithin, Standing, Stands}
 use Rattle.node_loop.specs.Serving.{IsStopped, IsWhole, BreaksOff, IsStarved, KeepsHeld, Serves, starves}

@@ -21,8 +21,10 @@ use Rattle.journal.specs.declared.turn.Heard.TheVariants as heard
 use Rattle.journal.specs.declared.turn.Turn.{Turn}
 use Rattle.journal.specs.Turns.{turn_text}
 use Rattle.node_loop.specs.declared.turns.Pace.{Pace}
-use Rattle.node_loop.specs.Turns.{Act, Receives, Writes, Calls, Outlook, after_turn, leaving_acts, life_acts, delivery_of, forgotten_in, heard_of, most_for, pace_for, ticks_forgotten, ticks_in, ticks_of, ticks_owed, turn_acts, turn_in, turns_from}
-use Rattle.node_loop.specs.Courses.{ServeState, acted, served, served_from, with_feed, writes}
+use Rattle.turn_rules.specs.Turns.{Act, Receives, Writes, Calls, leaving_acts, delivery_of, ticks_of, turn_acts}
+use Rattle.node_loop.specs.Turns.{Outlook, after_turn, life_acts, forgotten_in, heard_of, most_for, pace_for, ticks_forgotten, ticks_in, ticks_owed, turn_in, turns_from}
+use Rattle.node_loop.specs.Courses.{ServeState, acted, served, served_from, writes}
+use Rattle.turn_rules.specs.Lines.{with_feed}
 use Rattle.node_loop.specs.Writing.{Before, Hears, IsWithin, Standing, Stands, Tells, before_all, standing}
 use Rattle.node_loop.specs.Serving.{Sees, Serves}
 use Rattle.node_loop.proofs.CallLemmas.{served-one}
@@ -96,7 +98,7 @@ served-line : (s : Setting) (turn : Turn) (r : ServeState)
     → served s (turn_acts turn) r ≡ served s (delivery_of turn.heard ++ ticks_of turn.ticks) (writes (with_feed (turn_text turn)) (acted s r Receives))
 served-line s turn r =
     let rest = delivery_of turn.heard ++ ticks_of turn.ticks in
-    served-cons s Receives (Writes (turn_text turn) ∷ rest) r ∙ served-cons s (Writes (turn_text turn)) rest (acted s r Receives)
+    served-cons s Receives (Writes turn ∷ rest) r ∙ served-cons s (Writes turn) rest (acted s r Receives)
 
 grows-line : (s : Setting) (turn : Turn) (r : ServeState) → Grows (writes (with_feed (turn_text turn)) (acted s r Receives)) (served s (turn_acts turn) r)
 grows-line s turn r =
@@ -127,11 +129,11 @@ unwritten-turn s before w r turn faults.WriteFault h = inl (breaks-off s before 
 unwritten-turn s before w r turn faults.OutOfMemory h = inl (breaks-off s before (turn_acts turn) r _ w h (grows-line s turn r))
 
 abbrev begun_acts : Turn → List Act
-begun_acts turn = Receives ∷ Writes (turn_text turn) ∷ []
+begun_acts turn = Receives ∷ Writes turn ∷ []
 
 served-begun : (s : Setting) (turn : Turn) (r : ServeState) → served s (begun_acts turn) r ≡ writes (with_feed (turn_text turn)) (acted s r Receives)
 served-begun s turn r =
-    served-cons s Receives (Writes (turn_text turn) ∷ []) r ∙ served-cons s (Writes (turn_text turn)) [] (acted s r Receives)
+    served-cons s Receives (Writes turn ∷ []) r ∙ served-cons s (Writes turn) [] (acted s r Receives)
     ∙ served-nil s (writes (with_feed (turn_text turn)) (acted s r Receives))
 
 -- the delivery ended the turn
@@ -154,11 +156,11 @@ ticked-turn s before w r turn answer h =
 
 -- a turn of no ticks is its line and the delivery
 pub unticked-turn : (s : Setting) (before : Before) (w : Standing) (r : ServeState) (turn : Turn) (answer : Result (Unit {0}) ServeFault) → turn.ticks ≡ 0
-    → Serves s before (Writes (turn_text turn) ∷ delivery_of turn.heard) (acted s r Receives) w answer → Serves s before (turn_acts turn) r w answer
+    → Serves s before (Writes turn ∷ delivery_of turn.heard) (acted s r Receives) w answer → Serves s before (turn_acts turn) r w answer
 unticked-turn s before w r turn answer none h =
-    let acts = Writes (turn_text turn) ∷ delivery_of turn.heard in
+    let acts = Writes turn ∷ delivery_of turn.heard in
     let whole : turn_acts turn ≡ Receives ∷ acts =
-    ap (λ (k : ℕ). Receives ∷ Writes (turn_text turn) ∷ delivery_of turn.heard ++ ticks_of k) none ∙ ap (λ (xs : List Act). Receives ∷ Writes (turn_text turn) ∷ xs) (append-nil (delivery_of turn.heard)) in
+    ap (λ (k : ℕ). Receives ∷ Writes turn ∷ delivery_of turn.heard ++ ticks_of k) none ∙ ap (λ (xs : List Act). Receives ∷ Writes turn ∷ xs) (append-nil (delivery_of turn.heard)) in
     subst (λ xs. Serves s before xs r w answer) (sym whole)
     (serves-last s before (Receives ∷ []) acts r w answer (subst (λ x. Serves s before acts x w answer) (sym (served-one s Receives r)) h))
 

@@ -28,10 +28,12 @@ use Rattle.node_rules.specs.OnDisks.{Delivers}
 use Rattle.node_rules.specs.Lives.{call_of}
 use Rattle.node_loop.specs.declared.fault.ServeFault.{ServeFault}
 use Rattle.node_loop.specs.declared.fault.ServeFault.TheVariants as faults
-use Rattle.node_loop.specs.Turns.{Calls, Writes, delivery_of}
-use Rattle.node_loop.specs.Courses.{ServeState, moves, served, tells_all, with_feed, writes}
+use Rattle.turn_rules.specs.Turns.{Calls, Writes, delivery_of}
+use Rattle.node_loop.specs.Courses.{ServeState, moves, served, tells_all, writes}
+use Rattle.turn_rules.specs.Lines.{with_feed}
 use Rattle.node_loop.specs.Gathering.{IsAtBut, OwesSpent}
-use Rattle.node_loop.specs.Lines.{GoesOn, OfTurn}
+use Rattle.node_loop.specs.Lines.{GoesOn}
+use Rattle.turn_rules.specs.Lines.{OfTurn}
 use Rattle.node_loop.specs.Serving.{Serves}
 use Rattle.node_loop.specs.Unsigned.{IsQuiet, is_unsigned_kind}
 use Rattle.node_loop.specs.Writing.{Answers, Before, IsWithin, Standing, Stands, Tells, WritesLine, has_failed, standing}
@@ -98,12 +100,12 @@ goes-quiet a b x y before after count turn bytes lines answer quiet is wrote sig
 
 -- the line, and then the delivery
 pub quiet-serves : (s : Setting) (before : Before) (w : Standing) (r : ServeState) (turn : Turn) (bytes : List ℕ) (answer : Answer) → IsQuiet turn bytes
-    → Serves s before (Calls (Delivers bytes) ∷ []) (writes (with_feed (turn_text turn)) r) w answer → Serves s before (Writes (turn_text turn) ∷ delivery_of turn.heard) r w answer
+    → Serves s before (Calls (Delivers bytes) ∷ []) (writes (with_feed (turn_text turn)) r) w answer → Serves s before (Writes turn ∷ delivery_of turn.heard) r w answer
 quiet-serves s before w r turn bytes answer quiet h =
     let acts = Calls (Delivers bytes) ∷ [] in
-    subst (λ xs. Serves s before (Writes (turn_text turn) ∷ xs) r w answer) (sym (ap delivery_of quiet.got))
-    (serves-last s before (Writes (turn_text turn) ∷ []) acts r w answer
-    (subst (λ z. Serves s before acts z w answer) (sym (served-one s (Writes (turn_text turn)) r)) h))
+    subst (λ xs. Serves s before (Writes turn ∷ xs) r w answer) (sym (ap delivery_of quiet.got))
+    (serves-last s before (Writes turn ∷ []) acts r w answer
+    (subst (λ z. Serves s before acts z w answer) (sym (served-one s (Writes turn) r)) h))
 
 -- the call was answered, and the line is in front of what it reported
 pub serves-gathered : (s : Setting) (before : Before) (v0 v : Kept) (link later : Option LinkState) (taken after : Option (List ℕ)) (older newer : List Moment) (sent sent1 : ℕ) (r : ServeState) (line bytes : List ℕ)
@@ -125,7 +127,7 @@ serves-gathered s before v0 v link later taken after older newer sent sent1 r li
 -- the write of the line failed, behind a call that made no signature
 pub quiet-broke : (s : Setting) (before : Before) (v0 v : Kept) (link : Option LinkState) (taken after : Option (List ℕ)) (older newer : List Moment) (sent : ℕ) (r : ServeState) (turn : Turn) (lines : List ℕ) (e : ServeFault)
     → Stands s before (standing v0 link taken older sent) r → v.signer ≡ v0.signer → newer ≡ older → lines ≡ with_feed (turn_text turn) → WritesLine taken after lines (Err e) → e ≡ faults.WriteFault
-    → Serves s before (Writes (turn_text turn) ∷ delivery_of turn.heard) r (standing v link after newer sent) (Err e)
+    → Serves s before (Writes turn ∷ delivery_of turn.heard) r (standing v link after newer sent) (Err e)
 quiet-broke s before v0 v link taken after older newer sent r turn lines e st signer moments is wrote fault =
     let line = with_feed (turn_text turn) in
     let rest = delivery_of turn.heard in
@@ -147,5 +149,5 @@ quiet-broke s before v0 v link taken after older newer sent r turn lines e st si
           subst (λ (z : SignerState). LivesOn h.spent before.signer z before.moments newer) (sym signer)
           (subst (λ (z : List Moment). LivesOn h.spent before.signer v0.signer before.moments z) (sym moments) h.key);
     } in
-    let grows : Grows r1 (served s (Writes (turn_text turn) ∷ rest) r) = subst (λ (z : ServeState). Grows r1 z) (sym (served-cons s (Writes (turn_text turn)) rest r)) (grows-served s rest r1) in
-    subst (λ (f : ServeFault). Serves s before (Writes (turn_text turn) ∷ rest) r w (Err f)) (sym fault) (inl (breaks-off s before (Writes (turn_text turn) ∷ rest) r r1 w within grows))
+    let grows : Grows r1 (served s (Writes turn ∷ rest) r) = subst (λ (z : ServeState). Grows r1 z) (sym (served-cons s (Writes turn) rest r)) (grows-served s rest r1) in
+    subst (λ (f : ServeFault). Serves s before (Writes turn ∷ rest) r w (Err f)) (sym fault) (inl (breaks-off s before (Writes turn ∷ rest) r r1 w within grows))

@@ -1,5 +1,5 @@
 -- The course of a life: what the node has come to, what the link holds, and the journal, act by act.
-use Rattle.std.specs.Prelude.{ℕ, nat_lt, Bool, if◌then◌else◌, List, [], ◌∷◌, ◌++◌, length, fold, Option, Some, None, unwrap_or}
+use Rattle.std.specs.Prelude.{ℕ, Bool, if◌then◌else◌, List, [], ◌++◌, length, fold, Option, Some, None, unwrap_or}
 use Rattle.std.specs.Option.{option_map}
 use Rattle.ports.specs.Count.{next_count}
 use Rattle.ports.specs.Memory.{is_failing}
@@ -7,13 +7,15 @@ use Rattle.ports.specs.Link.{LinkState, received_from, with_given}
 use Rattle.journal.specs.declared.event.Event as journal
 use Rattle.journal.specs.declared.event.What as whats
 use Rattle.journal.specs.declared.event.What.TheVariants as told
-use Rattle.journal.specs.Texts.{event_text}
+use Rattle.journal.specs.Turns.{turn_text}
 use Rattle.signer.specs.Lives.{Spent}
 use Rattle.node_core.specs.Spending.{spent_told}
-use Rattle.node_rules.specs.Nodes.{Setting, Node, state_of, certificate_of}
+use Rattle.node_rules.specs.Nodes.{Setting, Node, certificate_of}
 use Rattle.node_rules.specs.Calls.{Call}
 use Rattle.node_rules.specs.Lives.{Input, Delivers, Ticks, Leaves, call_of}
-use Rattle.node_loop.specs.Turns.{Act, Receives, Writes, Calls}
+use Rattle.turn_rules.specs.Turns.{Act, Receives, Writes, Calls}
+use Rattle.turn_rules.specs.Lines.{line_of, with_feed}
+use Rattle.turn_rules.specs.Courses.{datagram_in, may_tick}
 
 -- The node, the link, how many datagrams were sent, which signatures were made, and what was written.
 pub record ServeState : Type 0 where
@@ -28,12 +30,6 @@ abbrev pub served_from : Node → LinkState → ServeState
 served_from n link = record { node = n; link = link; sent = 0; spent = []; text = [] }
 
 -- ---- events
-
-abbrev pub with_feed : List ℕ → List ℕ
-with_feed line = line ++ 10 ∷ []
-
-abbrev pub line_of : journal.Event → List ℕ
-line_of e = with_feed (event_text e)
 
 abbrev pub writes : List ℕ → ServeState → ServeState
 writes line r = record r { text = r.text ++ line }
@@ -52,11 +48,6 @@ fails_next link = is_failing link.failing (length link.given)
 -- The datagram is given to the link, for the addressee's port.
 abbrev pub hands_over : ℕ → List ℕ → ServeState → ServeState
 hands_over to bytes r = record r { link = with_given (port_in r.node to) bytes r.link; sent = next_count r.sent }
-
--- whom a datagram went to, and its bytes, where the event reports one
-abbrev pub datagram_in : whats.What → Option (ℕ × List ℕ)
-datagram_in (told.Sent number to bytes) = Some (to, bytes)
-datagram_in other = None
 
 -- A datagram has the number of those sent before it in the life. Its line is written, it is given to the link, and where
 -- its send fails that is written too.
@@ -85,10 +76,6 @@ moves c r = record r { node = c.node; spent = r.spent ++ spent_told c.told }
 unfoldable pub gives : Call → ServeState → ServeState
 gives c r = tells_all c.told (moves c r)
 
--- a tick can be counted
-abbrev pub may_tick : Setting → Node → Bool
-may_tick s n = nat_lt (state_of s n).moment 18446744073709551615
-
 -- A life that counted 2^64 - 1 ticks makes no more.
 abbrev pub called : Setting → Input → ServeState → ServeState
 called s (Delivers bytes) r = gives (call_of s r.node (Delivers bytes)) r
@@ -97,7 +84,7 @@ called s Ticks r = if may_tick s r.node then gives (call_of s r.node Ticks) r el
 
 abbrev pub acted : Setting → ServeState → Act → ServeState
 acted s r Receives = record r { link = received_from r.link }
-acted s r (Writes line) = writes (with_feed line) r
+acted s r (Writes turn) = writes (with_feed (turn_text turn)) r
 acted s r (Calls input) = called s input r
 
 -- The course of a life behind these acts.

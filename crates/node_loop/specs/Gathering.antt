@@ -8,7 +8,8 @@ use Rattle.node_loop.specs.declared.fault.ServeFault.{ServeFault}
 use Rattle.node_loop.specs.declared.fault.ServeFault.TheVariants as faults
 use Rattle.node_loop.specs.Courses.{ServeState}
 use Rattle.node_loop.specs.Writing.{Before, HasSpent, Standing, Tells}
-use Rattle.node_loop.specs.Lines.{JournalLine, WritesSpent, WroteFront, bytes_of, faults_behind, spent_in}
+use Rattle.turn_rules.specs.Lines.{JournalLine, bytes_of}
+use Rattle.node_loop.specs.Lines.{WritesSpent, WroteFront, faults_behind, spent_in}
 
 -- The line is gathered behind the others; or memory was refused for it, and the others are written; or their write failed.
 abbrev pub GathersLine : Option (List ℕ) → Option (List ℕ) → List ℕ → List ℕ → List ℕ → Result (Unit {0}) ServeFault → Type 0

@@ -6,3 +6,4 @@ pub mod Gathering
 pub mod Unsigned
 pub mod Serving
 pub mod Expecting
+pub mod Journals

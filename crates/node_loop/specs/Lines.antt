@@ -1,9 +1,6 @@
 -- The lines that a life writes, whatever link and clock answer: the signatures that they give, and the faults of the link.
 use Rattle.std.specs.Prelude.{◌≡◌, ℕ, Bool, List, [], flat_map, fold, Option, Result, Ok, Err}
 use Rattle.std.specs.Io.KnownBytes.{Appends}
-use Rattle.journal.specs.declared.event.Event as journal
-use Rattle.journal.specs.declared.turn.Turn.{Turn}
-use Rattle.journal.specs.Turns.{turn_text}
 use Rattle.ports.specs.Count.{counted}
 use Rattle.ports.specs.Disk.{Moment}
 use Rattle.signer.specs.Lives.{Spent}
@@ -12,20 +9,8 @@ use Rattle.node_core.specs.Spending.{LivesOn, spent_by}
 use Rattle.node_core.specs.Told.{IsPrefix, is_loss}
 use Rattle.node_loop.specs.declared.fault.ServeFault.{ServeFault}
 use Rattle.node_loop.specs.declared.fault.ServeFault.TheVariants as faults
-use Rattle.node_loop.specs.Courses.{line_of, with_feed}
+use Rattle.turn_rules.specs.Lines.{JournalLine, OfTurn, OfEvent, bytes_of}
 use Rattle.node_loop.specs.Writing.{has_failed}
-
--- A line of the journal: that of a turn, or of an event.
-pub data JournalLine : Type 0 where
-  OfTurn : (turn : Turn) → JournalLine
-  OfEvent : (event : journal.Event) → JournalLine
-
-abbrev pub line_bytes : JournalLine → List ℕ
-line_bytes (OfTurn turn) = with_feed (turn_text turn)
-line_bytes (OfEvent event) = line_of event
-
-abbrev pub bytes_of : List JournalLine → List ℕ
-bytes_of lines = flat_map line_bytes lines
 
 -- The signature that the line gives, if any: a line `spent` gives one.
 abbrev pub spent_on : JournalLine → List Spent

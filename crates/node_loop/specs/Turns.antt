@@ -1,6 +1,6 @@
--- The turns of a life: in each one receive and one reading of the clock, the turn's line, and the calls of the node that
--- these bring. What they are depends on the answers of the link and the readings of the clock alone.
-use Rattle.std.specs.Prelude.{◌≡◌, ℕ, zero, suc, ◌+◌, ◌-◌, ◌/◌, ◌≤◌, ◌<◌, min, Bool, true, false, if◌then◌else◌, List, [], ◌∷◌, ◌++◌, Option, Some, None, filter, length, replicate, take, drop}
+-- The turns that a link and a clock bring: in each one receive and one reading of the clock, which say what it got and how many
+-- ticks it makes.
+use Rattle.std.specs.Prelude.{◌≡◌, ℕ, zero, suc, ◌+◌, ◌-◌, ◌/◌, ◌≤◌, ◌<◌, min, Bool, true, false, List, [], ◌∷◌, ◌++◌, Option, Some, None, filter, length, take, drop}
 use Rattle.ff_ids.specs.declared.Group.{Group}
 use Rattle.ff_ids.specs.Heals.{Heal}
 use Rattle.ports.specs.declared.link.LinkAnswer.{LinkAnswer}
@@ -11,10 +11,10 @@ use Rattle.ports.specs.MemoryClock.{NeverFalls}
 use Rattle.journal.specs.declared.turn.Heard.{Heard}
 use Rattle.journal.specs.declared.turn.Heard.TheVariants as heard
 use Rattle.journal.specs.declared.turn.Turn.{Turn}
-use Rattle.journal.specs.Turns.{turn_text}
 use Rattle.node_loop.specs.declared.turns.Pace.{Pace}
 use Rattle.node_rules.specs.Nodes.{Setting}
-use Rattle.node_rules.specs.Lives.{Input, Delivers, Ticks, Leaves}
+use Rattle.node_rules.specs.Lives.{Ticks}
+use Rattle.turn_rules.specs.Turns.{Act, Calls, leaving_acts, most_ticks, turn_acts}
 
 -- how many bytes a receive has room for: one more than the longest datagram has
 abbrev pub room : ℕ
@@ -25,27 +25,6 @@ abbrev pub heard_of : LinkAnswer → Heard
 heard_of (answers.Got bytes) = heard.Got (take room bytes)
 heard_of answers.Nothing = heard.Nothing
 heard_of answers.Failed = heard.Failed
-
--- ---- what a turn does
-
--- a receive, a line of the journal, or a call of the node
-pub data Act : Type 0 where
-  Receives : Act
-  Writes : (line : List ℕ) → Act
-  Calls : (input : Input) → Act
-
--- what was got is delivered
-abbrev pub delivery_of : Heard → List Act
-delivery_of (heard.Got bytes) = Calls (Delivers bytes) ∷ []
-delivery_of heard.Nothing = []
-delivery_of heard.Failed = []
-
-abbrev pub ticks_of : ℕ → List Act
-ticks_of ticks = replicate ticks (Calls Ticks)
-
--- its line, the delivery of what was got, and the ticks
-abbrev pub turn_acts : Turn → List Act
-turn_acts turn = Receives ∷ Writes (turn_text turn) ∷ delivery_of turn.heard ++ ticks_of turn.ticks
 
 -- ---- the pace
 
@@ -58,10 +37,6 @@ abbrev pub pace_for : Setting → ℕ → Pace
 pace_for s millis = record { millis = millis; most = most_for s.heal s.group }
 
 -- ---- the turns
-
--- the most ticks that a turn makes
-abbrev pub most_ticks : ℕ
-most_ticks = 64
 
 -- Since the base a tick is owed for each so many milliseconds.
 abbrev pub owed : Pace → ℕ → ℕ → ℕ → ℕ
@@ -121,9 +96,16 @@ turns_from pace base zero number o = []
 turns_from pace base (suc left) number o =
     turn_acts (turn_in pace base number o) ++ turns_from pace base left (number + 1) (after_turn pace base o)
 
--- a node that is to leave does so behind its last turn
-abbrev pub leaving_acts : Bool → List Act
-leaving_acts leave = if leave then Calls Leaves ∷ [] else []
+-- those turns themselves
+abbrev pub turns_in : Pace → ℕ → ℕ → ℕ → Outlook → List Turn
+turns_in pace base zero number o = []
+turns_in pace base (suc left) number o = turn_in pace base number o ∷ turns_in pace base left (number + 1) (after_turn pace base o)
+
+-- the turns of a life, which these answers and readings bring
+abbrev pub turns_brought : Pace → ℕ → List LinkAnswer → ℕ → List ℕ → List Turn
+turns_brought pace turns heard reading readings =
+    let base = next_reading reading readings in
+    turns_in pace base turns 1 (record { heard = heard; reading = base; readings = drop 1 readings; made = 0 })
 
 -- The base is the first reading, and the turns are numbered from 1.
 unfoldable pub life_acts : Pace → ℕ → Bool → List LinkAnswer → ℕ → List ℕ → List Act

@@ -7,7 +7,7 @@ ghost use Rattle.node_core.specs.Answers.{MayStop};
 ghost use Rattle.node_core.specs.Spending.{spent_told};
 ghost use Rattle.node_rules.specs.Nodes.{Setting};
 ghost use Rattle.node_rules.specs.Lives as lives;
-ghost use Rattle.node_loop.specs.Turns.{Calls, ticks_of};
+ghost use Rattle.turn_rules.specs.Turns.{Calls, ticks_of};
 ghost use Rattle.node_loop.specs.Courses.{ServeState, tells_all};
 ghost use Rattle.node_loop.specs.Lines.{GoesOn, WritesSpent};
 ghost use Rattle.node_loop.specs.Writing.{Answers, Before, Extends, IsAt, Settles, Stands, is_open_after, is_write_fault, standing};

@@ -2,6 +2,7 @@
 //! writes the node's events as the journal of the life, and sends its datagrams. `node_command` calls it.
 #![tactic(auto)]
 
+ghost use Rattle.node_loop.specs.Journals.{JournalsAreOfTurns};
 ghost use Rattle.node_loop.specs.Turns.{LivesFollowTheClock, TicksFollowTheClock};
 
 mod calls;
@@ -28,4 +29,10 @@ pub fn ticks_follow_the_clock()
 /// behind them changes nothing of that.
 pub fn lives_follow_the_clock()
     ensures { LivesFollowTheClock }
+{}
+
+/// A life that is served has come to the node, and has written the lines, of the turns which its link and its clock bring, where
+/// the datagrams are lost whose sends the link fails.
+pub fn journals_are_of_turns()
+    ensures { JournalsAreOfTurns }
 {}

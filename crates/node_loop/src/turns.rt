@@ -4,8 +4,10 @@ ghost use Rattle.std.specs.Prelude.{◌≡◌, ◌≢◌, ◌≤◌, ◌+◌, fa
 ghost use Rattle.ports.specs.Count.{counted, Rose};
 ghost use Rattle.node_rules.specs.Nodes.{Setting};
 ghost use Rattle.journal.specs.Turns.{turn_text};
-ghost use Rattle.node_loop.specs.Turns.{Outlook, after_turn, delivery_of, kept_of, room, ticks_forgotten, ticks_owed, turn_acts, turn_in};
-ghost use Rattle.node_loop.specs.Courses.{ServeState, served, with_feed};
+ghost use Rattle.node_loop.specs.Turns.{Outlook, after_turn, kept_of, room, ticks_forgotten, ticks_owed, turn_in};
+ghost use Rattle.turn_rules.specs.Turns.{delivery_of, turn_acts};
+ghost use Rattle.node_loop.specs.Courses.{ServeState, served};
+ghost use Rattle.turn_rules.specs.Lines.{with_feed};
 ghost use Rattle.node_loop.specs.Lines.{GoesOn};
 ghost use Rattle.node_loop.specs.Writing.{Before, Hears, Stands, WritesLine, has_failed, is_open_after, is_write_fault, standing};
 ghost use Rattle.node_loop.specs.Serving.{Sees, Serves};

@@ -4,10 +4,9 @@
 ghost use Rattle.std.specs.Prelude.{◌≡◌, ℕ, true, false, List, ◌∷◌, OnOk, IfErr, IfSome};
 ghost use Rattle.ports.specs.Count.{counted, Rose};
 ghost use Rattle.datagram.specs.Grammar.{read_of};
-ghost use Rattle.journal.specs.Turns.{turn_text};
 ghost use Rattle.node_core.specs.Hears.{brings_records};
 ghost use Rattle.node_rules.specs.Nodes.{Setting};
-ghost use Rattle.node_loop.specs.Turns.{Writes, delivery_of};
+ghost use Rattle.turn_rules.specs.Turns.{Writes, delivery_of};
 ghost use Rattle.node_loop.specs.Courses.{ServeState};
 ghost use Rattle.node_loop.specs.Lines.{GoesOn};
 ghost use Rattle.node_loop.specs.Unsigned.{IsQuiet, is_unsigned, is_unsigned_kind};
@@ -83,7 +82,7 @@ pub fn deliver_unsigned<D: Disk, L: Link, O: Sink>(
     ensures serves { (s : Setting) (before : Before) (r : ServeState)
         → Stands s before (standing node.old (L.state link.old).contents (O.state out.old).taken
         (D.state disk.old).moments sent.old) r
-        → Serves s before (Writes (turn_text turn.now) ∷ delivery_of turn.now.heard) r
+        → Serves s before (Writes turn.now ∷ delivery_of turn.now.heard) r
         (standing node.new (L.state link.new).contents (O.state out.new).taken
         (D.state disk.new).moments sent.new) result }
 {

@@ -4,7 +4,7 @@ ghost use Rattle.std.specs.Prelude.{◌≡◌, ◌≢◌, ◌++◌, ◌≤◌, [
 ghost use Rattle.ports.specs.Count.{counted};
 ghost use Rattle.journal.specs.Turns.{turn_text};
 ghost use Rattle.journal.specs.declared.event.What.TheVariants as kinds;
-ghost use Rattle.node_loop.specs.Courses.{line_of, with_feed};
+ghost use Rattle.turn_rules.specs.Lines.{line_of, with_feed};
 ghost use Rattle.node_loop.specs.Gathering.{GathersLine, WritesBehind};
 ghost use Rattle.node_loop.specs.Writing.{WritesLine, is_open_after, is_write_fault};
 

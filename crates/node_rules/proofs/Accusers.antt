@@ -204,18 +204,18 @@ none-opened : (s : Setting) (records : List Record) (c : Call) → AllByRecursio
 none-opened s [] c all h = h
 none-opened s (r ∷ records) c all h = none-opened s records (takes s r c) all.1 (none-takes s r c (λ a is. not_certified all.0.0 a (sym all.0.1 ∙ is)) h)
 
-none-blank : (s : Setting) (seed : List ℕ) (stored : Stored) → HoldsNoAccusation (blank s seed stored)
-none-blank s seed stored k r a is says = nothing r is
+none-blank : (s : Setting) (nonces : ℕ → ℕ) (stored : Stored) → HoldsNoAccusation (blank s nonces stored)
+none-blank s nonces stored k r a is says = nothing r is
   where
     nothing : (x : Record) → None ≡ Some x → ⊥
     nothing x e = cc
 
-none-started : (s : Setting) (seed : List ℕ) (certificates : List Record) (stored : Stored) → AllByRecursion Certifies certificates → HoldsNoAccusation (started s seed certificates stored).node
+none-started : (s : Setting) (nonces : ℕ → ℕ) (certificates : List Record) (stored : Stored) → AllByRecursion Certifies certificates → HoldsNoAccusation (started s nonces certificates stored).node
 unfolding started signs
-none-started s seed certificates stored all =
-    let c : Call = opened s seed certificates stored in
+none-started s nonces certificates stored all =
+    let c : Call = opened s nonces certificates stored in
     let b : Body = first_note s stored in
-    let h : HoldsNoAccusation c.node = none-opened s certificates (begun (blank s seed stored)) all (none-blank s seed stored) in
+    let h : HoldsNoAccusation c.node = none-opened s certificates (begun (blank s nonces stored)) all (none-blank s nonces stored) in
     none-takes s (own_record s c.node b) (spends s b c) (λ a is. note_only a is) h
   where
     note_only : (a : AccBody) → first_note s stored ≡ Accusation a → ⊥
@@ -224,11 +224,11 @@ none-started s seed certificates stored all =
 pub holds-life : (l : Life) (inputs : List Input) → IsCorrect l → HoldsItsLife l.setting (node_after l inputs)
 holds-life l inputs is =
     let s : Setting = l.setting in
-    let began : Accuses s l.own (started s l.seed l.certificates l.stored).node =
+    let began : Accuses s l.own (started s l.nonces l.certificates l.stored).node =
     record {
-      all = all-started s l.own l.seed l.certificates l.stored is.kit.all is.kit.own is.certified is.signs is.left;
-      accused = λ k r a held says. absurd (none-started s l.seed l.certificates l.stored is.kit.all k r a held says);
+      all = all-started s l.own l.nonces l.certificates l.stored is.kit.all is.kit.own is.certified is.signs is.left;
+      accused = λ k r a held says. absurd (none-started s l.nonces l.certificates l.stored is.kit.all k r a held says);
     } in
-    let here : Accuses s l.own (node_after l inputs) = accuses-calls s l.own (started s l.seed l.certificates l.stored).node inputs is.rings.some is.signs began in
+    let here : Accuses s l.own (node_after l inputs) = accuses-calls s l.own (started s l.nonces l.certificates l.stored).node inputs is.rings.some is.signs began in
     let u = here.all.upholds in
-    record { filed = u.filed; notes = u.notes; members = u.members; certificates = u.certificates; signed = u.signed; kept = held-kept s l.seed l.certificates l.stored inputs is.kit.all; accused = here.accused; out = out-life s l.seed l.certificates l.stored inputs }
+    record { filed = u.filed; notes = u.notes; members = u.members; certificates = u.certificates; signed = u.signed; kept = held-kept s l.nonces l.certificates l.stored inputs is.kit.all; accused = here.accused; out = out-life s l.nonces l.certificates l.stored inputs }

@@ -440,12 +440,12 @@ addresses-due s accused pings round c all h =
     addresses-summary s round (partner s c2.node round) c2 refl (addresses-pings_all s pings c1 all1 (addresses-accuses_all s accused c0 (addresses-spreads s c h)))
 
 -- each ping is of one that is watched
-In-pings_from : (seed : List ℕ) (k : ℕ) (watched : List Watched) (p : ℕ × ℕ) → In (pings_from seed k watched) p → (w : Watched) × (In watched w × (w.member ≡ p.0))
-In-pings_from seed k [] p i = absurd i
-In-pings_from seed k (w ∷ watched) p i =
+In-pings_from : (nonces : ℕ → ℕ) (k : ℕ) (watched : List Watched) (p : ℕ × ℕ) → In (pings_from nonces k watched) p → (w : Watched) × (In watched w × (w.member ≡ p.0))
+In-pings_from nonces k [] p i = absurd i
+In-pings_from nonces k (w ∷ watched) p i =
     elim i [
       | inl e ↦ (w, (inl refl, ap (λ (q : ℕ × ℕ). q.0) e))
-      | inr j ↦ let r = In-pings_from seed (k + 1) watched p j in (r.0, (inr r.1.0, r.1.1))
+      | inr j ↦ let r = In-pings_from nonces (k + 1) watched p j in (r.0, (inr r.1.0, r.1.1))
     ]
 
 watched-other : (s : Setting) (n : Node) (w : Watched) → AreCertified s n → In (watched_by s (state_of s n)) w → is_other s n w.member ≡ true
@@ -460,9 +460,9 @@ watched-other s n w members i =
 pinged-other : (s : Setting) (n : Node) (p : ℕ × ℕ) → AreCertified s n → In (pings_in s n (state_of s n)) p → is_other s n p.0 ≡ true
 pinged-other s n p members =
     let st : State = state_of s n in
-    let all : List (ℕ × ℕ) = pings_from n.probes.seed (sent_in n.probes.happened) (watched_by s st) in
+    let all : List (ℕ × ℕ) = pings_from n.probes.nonces (sent_in n.probes.happened) (watched_by s st) in
     cond_both (is_due s st) all [] (λ xs. In xs p → is_other s n p.0 ≡ true)
-    (λ due i. let r = In-pings_from n.probes.seed (sent_in n.probes.happened) (watched_by s st) p i in subst (λ m. is_other s n m ≡ true) r.1.1 (watched-other s n r.0 members r.1.0))
+    (λ due i. let r = In-pings_from n.probes.nonces (sent_in n.probes.happened) (watched_by s st) p i in subst (λ m. is_other s n m ≡ true) r.1.1 (watched-other s n r.0 members r.1.0))
     (λ never i. absurd i)
 
 addresses-passed : (s : Setting) (n : Node) → Addresses s (begun n) → Addresses s (passed s n)
@@ -514,50 +514,50 @@ addresses-opened : (s : Setting) (records : List Record) (c : Call) → Addresse
 addresses-opened s [] c h = h
 addresses-opened s (r ∷ records) c h = addresses-opened s records (takes s r c) (addresses-takes s r c h)
 
-blank-certified : (s : Setting) (seed : List ℕ) (stored : Stored) → AreCertified s (blank s seed stored)
+blank-certified : (s : Setting) (nonces : ℕ → ℕ) (stored : Stored) → AreCertified s (blank s nonces stored)
 unfolding state_of
-blank-certified s seed stored m is = absurd (false≢true is)
+blank-certified s nonces stored m is = absurd (false≢true is)
 
-started-certified : (s : Setting) (seed : List ℕ) (certificates : List Record) (stored : Stored) → AreCertified s (started s seed certificates stored).node
+started-certified : (s : Setting) (nonces : ℕ → ℕ) (certificates : List Record) (stored : Stored) → AreCertified s (started s nonces certificates stored).node
 unfolding started
-started-certified s seed certificates stored =
-    let c : Call = opened s seed certificates stored in
-    let h : Addresses s c = addresses-opened s certificates (begun (blank s seed stored)) (addresses-begun s (blank s seed stored) (blank-certified s seed stored)) in
+started-certified s nonces certificates stored =
+    let c : Call = opened s nonces certificates stored in
+    let h : Addresses s c = addresses-opened s certificates (begun (blank s nonces stored)) (addresses-begun s (blank s nonces stored) (blank-certified s nonces stored)) in
     (addresses-signs s (first_note s stored) c h).members
 
-certified-life : (s : Setting) (seed : List ℕ) (certificates : List Record) (stored : Stored) (inputs : List Input) → AreCertified s (after_calls s (started s seed certificates stored).node inputs)
-certified-life s seed certificates stored inputs = certified-calls s (started s seed certificates stored).node inputs (started-certified s seed certificates stored)
+certified-life : (s : Setting) (nonces : ℕ → ℕ) (certificates : List Record) (stored : Stored) (inputs : List Input) → AreCertified s (after_calls s (started s nonces certificates stored).node inputs)
+certified-life s nonces certificates stored inputs = certified-calls s (started s nonces certificates stored).node inputs (started-certified s nonces certificates stored)
 
 all-addressed : (s : Setting) (c : Call) → Addresses s c → AddressesOthers s c
 all-addressed s c h = All-from_In (λ d. is_other s c.node d.0 ≡ true) c.sent h.sent
 
-pub call-addresses : (s : Setting) (seed : List ℕ) (certificates : List Record) (stored : Stored) (inputs : List Input) (i : Input)
-    → AddressesOthers s (call_of s (after_calls s (started s seed certificates stored).node inputs) i)
-call-addresses s seed certificates stored inputs i =
-    let n : Node = after_calls s (started s seed certificates stored).node inputs in
-    all-addressed s (call_of s n i) (addresses-call s n i (certified-life s seed certificates stored inputs))
+pub call-addresses : (s : Setting) (nonces : ℕ → ℕ) (certificates : List Record) (stored : Stored) (inputs : List Input) (i : Input)
+    → AddressesOthers s (call_of s (after_calls s (started s nonces certificates stored).node inputs) i)
+call-addresses s nonces certificates stored inputs i =
+    let n : Node = after_calls s (started s nonces certificates stored).node inputs in
+    all-addressed s (call_of s n i) (addresses-call s n i (certified-life s nonces certificates stored inputs))
 
-pub delivered_until-addresses : (s : Setting) (seed : List ℕ) (certificates : List Record) (stored : Stored) (inputs : List Input) (records : List Record) (r : Record)
-    → AddressesOthers s (delivered_until s (after_calls s (started s seed certificates stored).node inputs) records r)
+pub delivered_until-addresses : (s : Setting) (nonces : ℕ → ℕ) (certificates : List Record) (stored : Stored) (inputs : List Input) (records : List Record) (r : Record)
+    → AddressesOthers s (delivered_until s (after_calls s (started s nonces certificates stored).node inputs) records r)
 unfolding delivered_until
-delivered_until-addresses s seed certificates stored inputs records r =
-    let n : Node = after_calls s (started s seed certificates stored).node inputs in
+delivered_until-addresses s nonces certificates stored inputs records r =
+    let n : Node = after_calls s (started s nonces certificates stored).node inputs in
     let c : Call = handles_all s records (begun n) in
-    all-addressed s (handles false s c r) (addresses-handles s false c r (addresses-handles_all s records (begun n) (addresses-begun s n (certified-life s seed certificates stored inputs))))
+    all-addressed s (handles false s c r) (addresses-handles s false c r (addresses-handles_all s records (begun n) (addresses-begun s n (certified-life s nonces certificates stored inputs))))
 
-pub ticked_until-addresses : (s : Setting) (seed : List ℕ) (certificates : List Record) (stored : Stored) (inputs : List Input) (silent : List ℕ) (m : ℕ)
-    → AddressesOthers s (ticked_until s (after_calls s (started s seed certificates stored).node inputs) silent m)
+pub ticked_until-addresses : (s : Setting) (nonces : ℕ → ℕ) (certificates : List Record) (stored : Stored) (inputs : List Input) (silent : List ℕ) (m : ℕ)
+    → AddressesOthers s (ticked_until s (after_calls s (started s nonces certificates stored).node inputs) silent m)
 unfolding ticked_until
-ticked_until-addresses s seed certificates stored inputs silent m =
-    let n : Node = after_calls s (started s seed certificates stored).node inputs in
+ticked_until-addresses s nonces certificates stored inputs silent m =
+    let n : Node = after_calls s (started s nonces certificates stored).node inputs in
     let c : Call = accuses_all s silent (spread_at s n) in
-    all-addressed s (accuses false s c m) (addresses-accuses s false c m (addresses-accuses_all s silent (spread_at s n) (addresses-spread s n (addresses-begun s n (certified-life s seed certificates stored inputs)))))
+    all-addressed s (accuses false s c m) (addresses-accuses s false c m (addresses-accuses_all s silent (spread_at s n) (addresses-spread s n (addresses-begun s n (certified-life s nonces certificates stored inputs)))))
 
-pub left_until-addresses : (s : Setting) (seed : List ℕ) (certificates : List Record) (stored : Stored) (inputs : List Input) → AddressesOthers s (left_until s (after_calls s (started s seed certificates stored).node inputs))
+pub left_until-addresses : (s : Setting) (nonces : ℕ → ℕ) (certificates : List Record) (stored : Stored) (inputs : List Input) → AddressesOthers s (left_until s (after_calls s (started s nonces certificates stored).node inputs))
 unfolding left_until
-left_until-addresses s seed certificates stored inputs =
-    let n : Node = after_calls s (started s seed certificates stored).node inputs in
-    all-addressed s (leaves false s (begun n)) (addresses-leaves s false (begun n) (addresses-begun s n (certified-life s seed certificates stored inputs)))
+left_until-addresses s nonces certificates stored inputs =
+    let n : Node = after_calls s (started s nonces certificates stored).node inputs in
+    all-addressed s (leaves false s (begun n)) (addresses-leaves s false (begun n) (addresses-begun s n (certified-life s nonces certificates stored inputs)))
 
 -- ---- ports
 
@@ -594,5 +594,5 @@ addressees-ports l inputs i correct ranges bytes last =
     let c : Call = call_of s (node_after l inputs) i in
     let later : node_after l (inputs ++ i ∷ []) ≡ c.node = calls-append s (node_after l []) inputs (i ∷ []) in
     let formed = (sendable l (inputs ++ i ∷ []) correct ranges (all-and IsOfBytes inputs i bytes last)).held in
-    let h : Addresses s c = addresses-call s (node_after l inputs) i (certified-life s l.seed l.certificates l.stored inputs) in
+    let h : Addresses s c = addresses-call s (node_after l inputs) i (certified-life s l.nonces l.certificates l.stored inputs) in
     All-from_In (λ d. HasPort c.node d.0) c.sent (λ d j. subst (λ n. HasPort n d.0) later (has-port (node_after l (inputs ++ i ∷ [])) d.0 formed (subst (λ n. is_certified n d.0 ≡ true) (sym later) (and_parts _ _ (h.sent d j)).0)))

@@ -277,9 +277,9 @@ record HasOpened (s : Setting) (n : Node) : Type 0 where
   upholds : Upholds s n
   no_notes : (m : ℕ) → n.held (keys.Note m) ≡ None
 
-blank-opened : (s : Setting) (seed : List ℕ) (stored : Stored) → HasOpened s (blank s seed stored)
+blank-opened : (s : Setting) (nonces : ℕ → ℕ) (stored : Stored) → HasOpened s (blank s nonces stored)
 unfolding state_of certificate_of
-blank-opened s seed stored =
+blank-opened s nonces stored =
     record {
       upholds =
           record {
@@ -315,23 +315,23 @@ first-good t stored = cond_both (good_mask t stored) stored (all_rings t) (λ m.
 first-fine : (t : ℕ) (joined : Bool) (newest_note : Option NoteBody) (n : NoteBody) → joined ≡ true → note_mask t n.mask.0 ≡ true → newest_note ≡ None → note_fault_by t joined newest_note n ≡ None
 first-fine t joined newest_note n j g h = rw (j, g, h) refl
 
-pub all-started : (s : Setting) (own : Key) (seed : List ℕ) (certificates : List Record) (stored : Stored) → AllByRecursion Certifies certificates → list_any (λ r. is_certificate_for s.me r.body) certificates ≡ true
-    → AllByRecursion (IsCertifiedBy s own) certificates → OwnSignaturesVerify s own → stored.next < s.indexes → KeepsAll s own (started s seed certificates stored).node
+pub all-started : (s : Setting) (own : Key) (nonces : ℕ → ℕ) (certificates : List Record) (stored : Stored) → AllByRecursion Certifies certificates → list_any (λ r. is_certificate_for s.me r.body) certificates ≡ true
+    → AllByRecursion (IsCertifiedBy s own) certificates → OwnSignaturesVerify s own → stored.next < s.indexes → KeepsAll s own (started s nonces certificates stored).node
 unfolding started
-all-started s own seed certificates stored all mine good sign left =
-    let c : Call = opened s seed certificates stored in
-    let o : HasOpened s c.node = kit-opened s own certificates (begun (blank s seed stored)) all good (blank-opened s seed stored) in
-    let v = key-started s own seed certificates stored all mine good left in
+all-started s own nonces certificates stored all mine good sign left =
+    let c : Call = opened s nonces certificates stored in
+    let o : HasOpened s c.node = kit-opened s own certificates (begun (blank s nonces stored)) all good (blank-opened s nonces stored) in
+    let v = key-started s own nonces certificates stored all mine good left in
     let x : NoteBody = record { member = s.me; epoch = stored.epoch + 1; mask = record { 0 = first_mask s.group.t stored.mask.0 } } in
     let within : (signs s (Note x) c).node.stored.next ≤ s.indexes = v.within in
     let index : c.node.stored.next < s.indexes = omega (arith, next-signs s (Note x) c, within) in
     let key : public_key_of c.node s.me ≡ Some own = sym (ap (option_map (λ c. c.key)) (certificate-signs s (Note x) c s.me (note-is_none x))) ∙ v.own_key in
-    let joined : is_member (state_of s c.node) s.me ≡ true = becomes_member s certificates (begun (blank s seed stored)) all mine in
+    let joined : is_member (state_of s c.node) s.me ≡ true = becomes_member s certificates (begun (blank s nonces stored)) all mine in
     let none : newest (state_of s c.node).notes s.me ≡ None = sym (o.upholds.notes s.me) ∙ ap (option_and_then (λ r. note_of_body r.body)) (o.no_notes s.me) in
     let fine : note_fault s.group.t (state_of s c.node) x ≡ None =
     first-fine s.group.t (is_member (state_of s c.node) s.me) (newest (state_of s c.node).notes s.me) x joined (good-allowed s.group.t (first_mask s.group.t stored.mask.0) (first-good s.group.t stored.mask.0)) none in
     record {
-      own_note = own-started s seed certificates stored (all_rings-good s.group.t) all mine;
+      own_note = own-started s nonces certificates stored (all_rings-good s.group.t) all mine;
       own_key = v.own_key;
       within = within;
       upholds = upholds-signs_note s own x c refl sign index key fine o.upholds;
@@ -339,5 +339,5 @@ all-started s own seed certificates stored all mine good sign left =
 
 pub all-life : (l : Life) (inputs : List Input) → IsCorrect l → KeepsAll l.setting l.own (node_after l inputs)
 all-life l inputs is =
-    all-calls l.setting l.own (started l.setting l.seed l.certificates l.stored).node inputs is.rings.some is.signs
-    (all-started l.setting l.own l.seed l.certificates l.stored is.kit.all is.kit.own is.certified is.signs is.left)
+    all-calls l.setting l.own (started l.setting l.nonces l.certificates l.stored).node inputs is.rings.some is.signs
+    (all-started l.setting l.own l.nonces l.certificates l.stored is.kit.all is.kit.own is.certified is.signs is.left)

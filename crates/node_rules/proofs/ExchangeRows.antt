@@ -31,10 +31,10 @@ use Rattle.node_rules.specs.OneExchange.{Life, node_after, notes_after, IsCorrec
 use Rattle.node_rules.proofs.Growth.{held-takes, certificate-signs, note-is_none}
 use Rattle.node_rules.proofs.Upholding.{none_some, certificate-certificate}
 use Rattle.node_rules.proofs.OneExchange.{one-exchange}
-use Rattle.node_rules.proofs.Rows.{key_with, setting, seed, certificate, new_store, note}
+use Rattle.node_rules.proofs.Rows.{key_with, setting, nonces, certificate, new_store, note}
 
 abbrev life : Setting → List Record → Life
-life s certificates = record { setting = s; own = s.authority; seed = seed; certificates = certificates; stored = new_store }
+life s certificates = record { setting = s; own = s.authority; nonces = nonces; certificates = certificates; stored = new_store }
 
 -- A node is handed a note of another member.
 abbrev hears_note : ℕ → ℕ → Input
@@ -140,7 +140,7 @@ one_certificate : (me m : ℕ) (c : CertBody) → certificate_of (node_after (al
 unfolding started certificate_of
 one_certificate me m c kept =
     let s : Setting = sized me in
-    let begins : Call = begun (blank s seed new_store) in
+    let begins : Call = begun (blank s nonces new_store) in
     let taken : Call = takes s (certificate me) begins in
     let noted_only : certificate_of (node_after (alone me) []) m ≡ certificate_of taken.node m = certificate-signs s (first_note s new_store) taken m (λ x e. note-is_none _ x e) in
     let place : taken.node.held (keys.Certificate m) ≡ cond (eqb me m) (Some (certificate me)) None = held-takes s (certificate me) begins (keys.Certificate m) tt ∙ certificate-certificate (certificate me) begins.node.held (cert me) m refl in

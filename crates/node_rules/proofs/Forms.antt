@@ -49,16 +49,16 @@ use Rattle.node_rules.proofs.Walks.{KeepsNode, HasGiven, IsInput, walk-calls}
 
 -- ---- what is held
 
-abbrev AreFormed : Holding → Type 0
+abbrev pub AreFormed : Holding → Type 0
 AreFormed held = (k : RecordKey) (r : Record) → held k ≡ Some r → IsSignedRecord r
 
-formed-lives : (s : Setting) (e : Event) (c : Call) → AreFormed c.node.held → AreFormed (lives s e c).node.held
+pub formed-lives : (s : Setting) (e : Event) (c : Call) → AreFormed c.node.held → AreFormed (lives s e c).node.held
 formed-lives s e c formed = λ k r h. let before = was-lives s e c k r h in formed before.0 r before.1
 
-formed-takes : (s : Setting) (r : Record) (c : Call) → IsSignedRecord r → AreFormed c.node.held → AreFormed (takes s r c).node.held
+pub formed-takes : (s : Setting) (r : Record) (c : Call) → IsSignedRecord r → AreFormed c.node.held → AreFormed (takes s r c).node.held
 formed-takes s r c this formed = λ k x h. elim (was-takes s r c k x h) [ inl same ↦ subst IsSignedRecord same this | inr before ↦ formed before.0 x before.1 ]
 
-formed-signs : (s : Setting) (b : Body) (c : Call) → IsSignedRecord (own_record s c.node b) → AreFormed c.node.held → AreFormed (signs s b c).node.held
+pub formed-signs : (s : Setting) (b : Body) (c : Call) → IsSignedRecord (own_record s c.node b) → AreFormed c.node.held → AreFormed (signs s b c).node.held
 unfolding signs
 formed-signs s b c this formed = formed-takes s (own_record s c.node b) (spends s b c) this formed
 
@@ -79,7 +79,7 @@ pub record Formed (s : Setting) (own : Key) (n : Node) : Type 0 where
 own-signed : (s : Setting) (own : Key) (b : Body) (n : Node) → IsRanged s → OwnSignaturesVerify s own → n.stored.next < s.indexes → IsBody b → IsSignedRecord (own_record s n b)
 own-signed s own b n ranged sign left body = record { body = body; signature = ranged.lengths own (own_record s n b) (sign n.stored.next b left) }
 
-epoch-note : (stored : Stored) (x : NoteBody) → x.epoch ≡ stored.epoch + 1 → stored.epoch ≤ stored.next → (stored_after stored (Note x)).epoch ≤ (stored_after stored (Note x)).next
+pub epoch-note : (stored : Stored) (x : NoteBody) → x.epoch ≡ stored.epoch + 1 → stored.epoch ≤ stored.next → (stored_after stored (Note x)).epoch ≤ (stored_after stored (Note x)).next
 epoch-note stored x is le = omega (arith, is, le)
 
 formed-takes_given : (s : Setting) (own : Key) (r : Record) (c : Call) → 1 ≤ s.group.t → OwnSignaturesVerify s own → IsSignedRecord r → refusal s c.node r ≡ None → Formed s own c.node → Formed s own (takes s r c).node
@@ -91,14 +91,13 @@ formed-takes_given s own r c some sign given fine h =
     }
 
 -- the next own note
+pub next-body : (s : Setting) (n : Node) (mask : ℕ) → s.me < MEMBERS → s.group.t ≤ MAX_TOLERANCE → s.indexes < 2 ^ 64 → n.stored.epoch ≤ n.stored.next → n.stored.next < s.indexes → note_mask s.group.t mask ≡ true
+    → IsBody (Note (record { member = s.me; epoch = n.stored.epoch + 1; mask = record { 0 = mask } }))
+next-body s n mask me few indexes le left allowed =
+    record { member_number = me; has_epoch = omega arith; epoch_fits = omega (arith, indexes, le, left); mask_fits = allowed-fits s.group.t mask few allowed }
+
 next-formed : (s : Setting) (n : Node) (mask : ℕ) → IsRanged s → n.stored.epoch ≤ n.stored.next → n.stored.next < s.indexes → note_mask s.group.t mask ≡ true → IsBody (Note (record { member = s.me; epoch = n.stored.epoch + 1; mask = record { 0 = mask } }))
-next-formed s n mask ranged le left allowed =
-    record {
-      member_number = ranged.me;
-      has_epoch = omega arith;
-      epoch_fits = omega (arith, ranged.indexes, le, left);
-      mask_fits = allowed-fits s.group.t mask ranged.few allowed;
-    }
+next-formed s n mask ranged le left allowed = next-body s n mask ranged.me ranged.few ranged.indexes le left allowed
 
 formed-answers : (s : Setting) (own : Key) (r : Record) (a : AccBody) (c : Call) → IsRanged s → 1 ≤ s.group.t → OwnSignaturesVerify s own → IsSignedRecord r → refusal s c.node r ≡ None → r.body ≡ Accusation a → eqb a.accused s.me ≡ true
     → may_rise s.heal c.node ≡ true → is_used_up s (takes s r c).node ≡ false → Formed s own c.node → Formed s own (signs s (answer_to s (takes s r c).node.stored a) (takes s r c)).node
@@ -140,7 +139,7 @@ formed-leaves s own c ranged some sign left h =
 
 -- ---- own accusations
 
-some-first : {X Y : Type 0} (o : Option X) (f : X → Option Y) (y : Y) → option_and_then f o ≡ Some y → (x : X) × (o ≡ Some x)
+pub some-first : {X Y : Type 0} (o : Option X) (f : X → Option Y) (y : Y) → option_and_then f o ≡ Some y → (x : X) × (o ≡ Some x)
 some-first None f y e = cc
 some-first (Some x) f y e = (x, refl)
 
@@ -161,7 +160,7 @@ accused-body s own n m ring ranged h found =
       epoch_fits = subst (λ k. k < 2 ^ 64) (sym epoch) body.epoch_fits;
     }
 
-epoch-accusation : (stored : Stored) (a : AccBody) → stored.epoch ≤ stored.next → (stored_after stored (Accusation a)).epoch ≤ (stored_after stored (Accusation a)).next
+pub epoch-accusation : (stored : Stored) (a : AccBody) → stored.epoch ≤ stored.next → (stored_after stored (Accusation a)).epoch ≤ (stored_after stored (Accusation a)).next
 epoch-accusation stored a le = omega (arith, le)
 
 formed-accuses : (s : Setting) (own : Key) (m ring : ℕ) (c : Call) → IsRanged s → 1 ≤ s.group.t → OwnSignaturesVerify s own → ring_for s (state_of s c.node) m ≡ Some ring → is_used_up s c.node ≡ false → Formed s own c.node
@@ -196,20 +195,20 @@ keeping-formed s own ranged some sign =
 
 -- ---- the start
 
-formed-kit : (s : Setting) (records : List Record) (c : Call) → AllByRecursion IsSignedRecord records → AreFormed c.node.held → AreFormed (takes_all s records c).node.held
+pub formed-kit : (s : Setting) (records : List Record) (c : Call) → AllByRecursion IsSignedRecord records → AreFormed c.node.held → AreFormed (takes_all s records c).node.held
 formed-kit s [] c all h = h
 formed-kit s (r ∷ records) c all h = formed-kit s records (takes s r c) all.1 (formed-takes s r c all.0 h)
 
-stored-kit : (s : Setting) (records : List Record) (c : Call) → (takes_all s records c).node.stored ≡ c.node.stored
+pub stored-kit : (s : Setting) (records : List Record) (c : Call) → (takes_all s records c).node.stored ≡ c.node.stored
 stored-kit s [] c = refl
 stored-kit s (r ∷ records) c = stored-kit s records (takes s r c) ∙ stored-takes s r c
 
-formed-started : (s : Setting) (own : Key) (seed : List ℕ) (certificates : List Record) (stored : Stored) → AllByRecursion Certifies certificates → list_any (λ r. is_certificate_for s.me r.body) certificates ≡ true
-    → AllByRecursion (IsCertifiedBy s own) certificates → OwnSignaturesVerify s own → stored.next < s.indexes → IsRanged s → AllByRecursion IsSignedRecord certificates → stored.epoch ≤ stored.next → Formed s own (started s seed certificates stored).node
+formed-started : (s : Setting) (own : Key) (nonces : ℕ → ℕ) (certificates : List Record) (stored : Stored) → AllByRecursion Certifies certificates → list_any (λ r. is_certificate_for s.me r.body) certificates ≡ true
+    → AllByRecursion (IsCertifiedBy s own) certificates → OwnSignaturesVerify s own → stored.next < s.indexes → IsRanged s → AllByRecursion IsSignedRecord certificates → stored.epoch ≤ stored.next → Formed s own (started s nonces certificates stored).node
 unfolding started
-formed-started s own seed certificates stored all mine good sign left ranged spelled epoch =
-    let c : Call = opened s seed certificates stored in
-    let kept : c.node.stored ≡ stored = stored-kit s certificates (begun (blank s seed stored)) in
+formed-started s own nonces certificates stored all mine good sign left ranged spelled epoch =
+    let c : Call = opened s nonces certificates stored in
+    let kept : c.node.stored ≡ stored = stored-kit s certificates (begun (blank s nonces stored)) in
     let x : NoteBody = record { member = s.me; epoch = stored.epoch + 1; mask = record { 0 = first_mask s.group.t stored.mask.0 } } in
     let body : IsBody (Note x) =
     record {
@@ -220,28 +219,32 @@ formed-started s own seed certificates stored all mine good sign left ranged spe
     } in
     let index : c.node.stored.next < s.indexes = subst (λ k. k.next < s.indexes) (sym kept) left in
     record {
-      all = all-started s own seed certificates stored all mine good sign left;
-      held = formed-signs s (Note x) c (own-signed s own (Note x) c.node ranged sign index body) (formed-kit s certificates (begun (blank s seed stored)) spelled (λ k r is. absurd (none_some r is)));
+      all = all-started s own nonces certificates stored all mine good sign left;
+      held = formed-signs s (Note x) c (own-signed s own (Note x) c.node ranged sign index body) (formed-kit s certificates (begun (blank s nonces stored)) spelled (λ k r is. absurd (none_some r is)));
       epoch = subst (λ k. k.epoch ≤ k.next) (sym (stored-signs s (Note x) c)) (epoch-note c.node.stored x (ap (λ (k : Stored). k.epoch + 1) (sym kept)) (subst (λ k. k.epoch ≤ k.next) (sym kept) epoch));
     }
 
 -- ---- what is read is within its ranges
 
-read-formed : (bytes : List ℕ) → IsBytes bytes → HasGiven IsSignedRecord (read_of bytes)
+pub read-formed : (bytes : List ℕ) → IsBytes bytes → HasGiven IsSignedRecord (read_of bytes)
 read-formed bytes fits =
     λ from records is.
     let rules : IsRecordList from records = (read_found bytes (kinds.Records from records) fits is).rules in
     recursion_from_All IsSignedRecord records rules.each
 
-inputs-formed : (inputs : List Input) → AllByRecursion IsOfBytes inputs → AllByRecursion (IsInput IsSignedRecord) inputs
+pub inputs-formed : (inputs : List Input) → AllByRecursion IsOfBytes inputs → AllByRecursion (IsInput IsSignedRecord) inputs
 inputs-formed [] all = tt
 inputs-formed (Delivers bytes ∷ inputs) all = (read-formed bytes all.0, inputs-formed inputs all.1)
 inputs-formed (Tick ∷ inputs) all = (tt, inputs-formed inputs all.1)
 inputs-formed (Leaves ∷ inputs) all = (tt, inputs-formed inputs all.1)
 
+pub keeping-life : (l : Life) → IsCorrect l → IsWithinRanges l → KeepsNode l.setting IsSignedRecord (Formed l.setting l.own)
+keeping-life l is within =
+    keeping-formed l.setting l.own (record { me = within.me; few = is.rings.few; indexes = within.indexes; lengths = within.lengths }) is.rings.some is.signs
+
 pub formed-life : (l : Life) (inputs : List Input) → IsCorrect l → IsWithinRanges l → AllByRecursion IsOfBytes inputs → Formed l.setting l.own (node_after l inputs)
 formed-life l inputs is within bytes =
     let s : Setting = l.setting in
     let ranged : IsRanged s = record { me = within.me; few = is.rings.few; indexes = within.indexes; lengths = within.lengths } in
-    walk-calls s IsSignedRecord (Formed s l.own) (keeping-formed s l.own ranged is.rings.some is.signs) (started s l.seed l.certificates l.stored).node inputs (inputs-formed inputs bytes)
-    (formed-started s l.own l.seed l.certificates l.stored is.kit.all is.kit.own is.certified is.signs is.left ranged within.certificates within.epoch)
+    walk-calls s IsSignedRecord (Formed s l.own) (keeping-formed s l.own ranged is.rings.some is.signs) (started s l.nonces l.certificates l.stored).node inputs (inputs-formed inputs bytes)
+    (formed-started s l.own l.nonces l.certificates l.stored is.kit.all is.kit.own is.certified is.signs is.left ranged within.certificates within.epoch)

@@ -158,11 +158,11 @@ all-lived s st c low (m ∷ ms) h =
           }
     ]
 
-node-pings : (s : Setting) (pings : List (ℕ × ℕ)) (c : Call) → (pings_all s pings c).node ≡ c.node
+pub node-pings : (s : Setting) (pings : List (ℕ × ℕ)) (c : Call) → (pings_all s pings c).node ≡ c.node
 node-pings s [] c = refl
 node-pings s (p ∷ pings) c = node-pings s pings (sends s (kinds.Ping s.me p.1) c p.0) ∙ node-sends s (kinds.Ping s.me p.1) c p.0
 
-node-due : (s : Setting) (accused : List ℕ) (pings : List (ℕ × ℕ)) (round : ℕ) (c : Call) → (due_tick s accused pings round c).node ≡ (accuses_all s accused (spreads s c)).node
+pub node-due : (s : Setting) (accused : List ℕ) (pings : List (ℕ × ℕ)) (round : ℕ) (c : Call) → (due_tick s accused pings round c).node ≡ (accuses_all s accused (spreads s c)).node
 unfolding due_tick
 node-due s accused pings round c =
     let c1 : Call = accuses_all s accused (spreads s c) in

@@ -461,22 +461,22 @@ knows-takes_all : (s : Setting) (known base records : List Record) (c : Call) �
 knows-takes_all s known base [] c all h = h
 knows-takes_all s known base (r ∷ records) c all h = knows-takes_all s known base records (takes s r c) (λ x i. all x (inr i)) (knows-takes s known base r c (inl (all r (inl refl))) h)
 
-held-started : (s : Setting) (seed : List ℕ) (certificates : List Record) (stored : Stored) → HeldIn (certificates ++ signed_in s (started s seed certificates stored)) (started s seed certificates stored).node
+held-started : (s : Setting) (nonces : ℕ → ℕ) (certificates : List Record) (stored : Stored) → HeldIn (certificates ++ signed_in s (started s nonces certificates stored)) (started s nonces certificates stored).node
 unfolding started
-held-started s seed certificates stored =
-    let c0 : Call = begun (blank s seed stored) in
+held-started s nonces certificates stored =
+    let c0 : Call = begun (blank s nonces stored) in
     let nothing : Knows s certificates certificates c0 = record { held = λ k r e. none r e; sent = λ d i. absurd i } in
-    let c : Call = opened s seed certificates stored in
+    let c : Call = opened s nonces certificates stored in
     held-call s certificates certificates (signs s (first_note s stored) c)
     (knows-signs s certificates certificates (first_note s stored) c (knows-takes_all s certificates certificates certificates c0 (λ r i. i) nothing))
   where
-    none : (r : Record) → None ≡ Some r → IsIn certificates s (begun (blank s seed stored)) r
+    none : (r : Record) → None ≡ Some r → IsIn certificates s (begun (blank s nonces stored)) r
     none r e = cc
 
-pub held-life : (s : Setting) (seed : List ℕ) (certificates : List Record) (stored : Stored) (inputs : List Input)
-    → HeldIn (gathered s (started s seed certificates stored).node (certificates ++ signed_in s (started s seed certificates stored)) inputs) (after_calls s (started s seed certificates stored).node inputs)
-held-life s seed certificates stored inputs =
-    held-calls s (started s seed certificates stored).node (certificates ++ signed_in s (started s seed certificates stored)) inputs (held-started s seed certificates stored)
+pub held-life : (s : Setting) (nonces : ℕ → ℕ) (certificates : List Record) (stored : Stored) (inputs : List Input)
+    → HeldIn (gathered s (started s nonces certificates stored).node (certificates ++ signed_in s (started s nonces certificates stored)) inputs) (after_calls s (started s nonces certificates stored).node inputs)
+held-life s nonces certificates stored inputs =
+    held-calls s (started s nonces certificates stored).node (certificates ++ signed_in s (started s nonces certificates stored)) inputs (held-started s nonces certificates stored)
 
 pub call-sends : (s : Setting) (known : List Record) (n : Node) (i : Input) → HeldIn known n → SendsKnown s known (call_of s n i)
 call-sends s known n i held = sends-known s known (known ++ accepted_in s n i) (call_of s n i) (knows-call s known n i held)

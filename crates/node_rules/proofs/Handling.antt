@@ -129,7 +129,7 @@ that-wants test works s body addressees c over =
 
 -- ---- what no record changes
 
-moment-step : (s : Setting) (st : State) (b : Body) → (step s.group st (event_of s b)).state.moment ≡ st.moment
+pub moment-step : (s : Setting) (st : State) (b : Body) → (step s.group st (event_of s b)).state.moment ≡ st.moment
 moment-step s st (Certificate x) = cond_both (is_member st x.member) (unchanged st) (unchanged (joined st x.member (s.places x.member))) (λ y. y.state.moment ≡ st.moment) (λ yes. refl) (λ no. refl)
 moment-step s st (Note n) = by_fault (note_fault s.group.t st n)
   where

@@ -12,7 +12,6 @@ use Rattle.lms_tree.specs.Lms.{key_bytes}
 use Rattle.datagram.specs.declared.Datagram.TheVariants as kinds
 use Rattle.datagram.specs.Spelling.{head_bytes, entry_bytes, summary_bytes, records_bytes, datagram_bytes}
 use Rattle.datagram.specs.Grammar.{head_at, entry_at, entries_at, summary_at, counted_at, records_at, content_at, datagram_at, items_at, whole_of, read_of}
-use Rattle.detector.specs.Silence.{nonce}
 use Rattle.journal.specs.declared.event.Event as journal
 use Rattle.journal.specs.declared.event.What as what
 use Rattle.journal.specs.declared.event.What.TheVariants as told
@@ -24,7 +23,9 @@ use Rattle.node_rules.specs.Calls.{Call, lives, sends, takes, signs, signs_and_s
 use Rattle.node_rules.specs.Deliveries.{handles, delivered}
 use Rattle.node_rules.specs.Ticking.{accuses, fresh, spreads, passed, probed_at, due_tick, ticked}
 use Rattle.node_rules.specs.Starting.{started}
-use Rattle.node_rules.proofs.Rows.{setting, seed, certificate, new_store, note, acc, accused, at0, given, own}
+use Rattle.node_rules.specs.Verdicts.{told_that}
+use Rattle.node_rules.specs.OtherNonces.{drawn, probed_with, ticked_sending, ping_at, is_ping_sent}
+use Rattle.node_rules.proofs.Rows.{setting, nonces, certificate, new_store, note, acc, accused, at0, given, own}
 
 -- Each second round goes out of the view, and the epoch rises as far as it is asked, or by so much in a span.
 abbrev healing : ℕ → Setting
@@ -32,7 +33,7 @@ healing most = record (setting 1) { heal = Some (record { every = 2; most = most
 
 -- The node has accepted the note of 2.
 abbrev beside : Setting → Call
-beside s = delivered s (started s seed (certificate 1 ∷ certificate 2 ∷ certificate 40 ∷ []) new_store).node (given (note 2 1 7))
+beside s = delivered s (started s nonces (certificate 1 ∷ certificate 2 ∷ certificate 40 ∷ []) new_store).node (given (note 2 1 7))
 
 -- The node behind so many ticks, at which nobody answers.
 abbrev quiet : ℕ → Node
@@ -52,7 +53,7 @@ news =
     datagram_bytes (kinds.Records 1 (mine ∷ theirs ∷ []))
 
 abbrev ping : ℕ → List ℕ
-ping k = datagram_bytes (kinds.Ping 1 (nonce seed k))
+ping k = datagram_bytes (kinds.Ping 1 (nonces k))
 
 abbrev entry : ℕ → ℕ → ℕ → ℕ → SummaryEntry
 entry member epoch mask rings = record { member = member; epoch = epoch; mask = record { 0 = mask }; rings = rings }
@@ -68,6 +69,13 @@ second_page = datagram_bytes (kinds.Summary 1 false (record { page = 1; listed =
 spreads_news : (sent_at 0 ≡ (2, news) ∷ (2, ping 0) ∷ (2, summary 0) ∷ []) × (sent_at 1 ≡ (2, ping 1) ∷ (40, second_page) ∷ [])
 unfolding all_numbers in_view_by started signs signs_and_sends wants takes lives state_of delivered handles refusal sends certificate_of neighbours neighbours_and answering_mask bits_where page partner page_number lacking accuses fresh spreads passed probed_at due_tick ticked read_of whole_of datagram_at head_at items_at content_at records_at counted_at record_at body_at certificate_at note_at accusation_at key_at signature_at head_bytes records_bytes note_bytes accusation_bytes summary_at entries_at entry_at entry_bytes summary_bytes certificate_bytes key_bytes
 spreads_news = (refl, refl)
+
+-- With another nonce in the place of the one that is drawn, the ping alone is another.
+sends_other : (drawn (healing 0) (quiet 0) ≡ (2, nonces 0) ∷ [])
+    × ((ticked_sending (healing 0) (quiet 0) ((2, 7) ∷ [])).sent ≡ (2, news) ∷ (2, datagram_bytes (kinds.Ping 1 7)) ∷ (2, summary 0) ∷ [])
+    × (told_that is_ping_sent (ticked_sending (healing 0) (quiet 0) ((2, 7) ∷ [])) ≡ ping_at (healing 0) 1 1 2 7 ∷ [])
+unfolding all_numbers in_view_by started signs signs_and_sends wants takes lives state_of delivered handles refusal sends certificate_of neighbours neighbours_and answering_mask bits_where page partner page_number lacking accuses fresh spreads passed probed_at due_tick drawn probed_with ticked_sending read_of whole_of datagram_at head_at items_at content_at records_at counted_at record_at body_at certificate_at note_at accusation_at key_at signature_at head_bytes records_bytes note_bytes accusation_bytes summary_at entries_at entry_at entry_bytes summary_bytes certificate_bytes key_bytes
+sends_other = (refl, refl, refl)
 
 -- At the third 2 is accused. The accusation is news of the fourth, whose round goes to 40 again.
 abbrev accusation : List ℕ

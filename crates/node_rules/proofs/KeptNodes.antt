@@ -246,19 +246,19 @@ agrees-calls : (s : Setting) (n : Node) (inputs : List Input) → Agrees s n →
 agrees-calls s n [] m = m
 agrees-calls s n (i ∷ inputs) m = agrees-calls s (call_of s n i).node inputs (agrees-call s n i m)
 
-agrees-blank : (s : Setting) (seed : List ℕ) (stored : Stored) → Agrees s (blank s seed stored)
+agrees-blank : (s : Setting) (nonces : ℕ → ℕ) (stored : Stored) → Agrees s (blank s nonces stored)
 unfolding state_of
-agrees-blank s seed stored = record { kept_is = λ a h. absurd (none_some h.0 h.1.0); held_is = λ a h. absurd h.1.0; unique = λ p q i j same. absurd i }
+agrees-blank s nonces stored = record { kept_is = λ a h. absurd (none_some h.0 h.1.0); held_is = λ a h. absurd h.1.0; unique = λ p q i j same. absurd i }
 
 agrees-opened : (s : Setting) (records : List Record) (c : Call) → AllByRecursion Certifies records → Agrees s c.node → Agrees s (takes_all s records c).node
 agrees-opened s [] c all m = m
 agrees-opened s (r ∷ records) c all m = agrees-opened s records (takes s r c) all.1 (agrees-takes s r c (subst (MayKeep s (state_of s c.node)) (sym all.0.1) tt) m)
 
-agrees-started : (s : Setting) (seed : List ℕ) (certificates : List Record) (stored : Stored) → AllByRecursion Certifies certificates → Agrees s (started s seed certificates stored).node
+agrees-started : (s : Setting) (nonces : ℕ → ℕ) (certificates : List Record) (stored : Stored) → AllByRecursion Certifies certificates → Agrees s (started s nonces certificates stored).node
 unfolding started
-agrees-started s seed certificates stored all =
-    let c : Call = opened s seed certificates stored in
-    agrees-signs s (first_note s stored) c tt (agrees-opened s certificates (begun (blank s seed stored)) all (agrees-blank s seed stored))
+agrees-started s nonces certificates stored all =
+    let c : Call = opened s nonces certificates stored in
+    agrees-signs s (first_note s stored) c tt (agrees-opened s certificates (begun (blank s nonces stored)) all (agrees-blank s nonces stored))
 
 -- ---- the law
 
@@ -280,11 +280,11 @@ itself : (a : AccBody) → same_accusation a a ≡ true
 itself a =
     and_from _ _ (and_from _ _ (and_from _ _ (eq-eqb a.accuser a.accuser refl) (eq-eqb a.accused a.accused refl)) (eq-eqb a.epoch a.epoch refl)) (eq-eqb a.ring.0 a.ring.0 refl)
 
-pub held-kept : (s : Setting) (seed : List ℕ) (certificates : List Record) (stored : Stored) (inputs : List Input) → AllByRecursion Certifies certificates → (a : AccBody)
-    → HoldsAccusation (after_calls s (started s seed certificates stored).node inputs) a ↔ (is_kept (state_of s (after_calls s (started s seed certificates stored).node inputs)) a ≡ true)
-held-kept s seed certificates stored inputs all a =
-    let n : Node = after_calls s (started s seed certificates stored).node inputs in
-    let m : Agrees s n = agrees-calls s (started s seed certificates stored).node inputs (agrees-started s seed certificates stored all) in (
+pub held-kept : (s : Setting) (nonces : ℕ → ℕ) (certificates : List Record) (stored : Stored) (inputs : List Input) → AllByRecursion Certifies certificates → (a : AccBody)
+    → HoldsAccusation (after_calls s (started s nonces certificates stored).node inputs) a ↔ (is_kept (state_of s (after_calls s (started s nonces certificates stored).node inputs)) a ≡ true)
+held-kept s nonces certificates stored inputs all a =
+    let n : Node = after_calls s (started s nonces certificates stored).node inputs in
+    let m : Agrees s n = agrees-calls s (started s nonces certificates stored).node inputs (agrees-started s nonces certificates stored all) in (
       λ h.
           let p = m.kept_is a (h.rec, (h.held, h.says)) in
           any_from_In (λ q. same_accusation q.0 a) (state_of s n).kept p.0 p.1.0 (ap (λ x. same_accusation x a) p.1.1 ∙ itself a),

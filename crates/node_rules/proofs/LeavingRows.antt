@@ -16,11 +16,11 @@ use Rattle.node_rules.specs.Leaving.{leaves, left}
 use Rattle.node_rules.specs.OnDisks.{Leaves, called, left_on}
 use Rattle.node_rules.specs.Starting.{started}
 use Rattle.node_rules.specs.Gaining.{leaving_event}
-use Rattle.node_rules.proofs.Rows.{at0, certificate, given, last_life, new_store, note, noted, own, seed, setting}
+use Rattle.node_rules.proofs.Rows.{at0, certificate, given, last_life, new_store, note, noted, own, nonces, setting}
 
 -- Node 1 alone: it goes out of its own view, and nothing is sent.
 abbrev alone : Call
-alone = started (setting 1) seed (certificate 1 ∷ []) new_store
+alone = started (setting 1) nonces (certificate 1 ∷ []) new_store
 
 leaves_alone : let c = left (setting 1) alone.node in (c.told ≡ at0 (told.Spent 1 (note 1 2 0)) ∷ at0 (told.Removed 1) ∷ []) × (c.sent ≡ [])
     × (view (state_of (setting 1) c.node) ≡ []) × (leaving_event (setting 1) alone.node ≡ Notes (record { member = 1; epoch = 2; mask = record { 0 = 0 } }) ∷ [])
@@ -48,7 +48,7 @@ unfolding all_numbers in_view_by started signs signs_and_sends wants takes lives
 stopped = (refl, refl, refl)
 
 -- The next life begins with all rings, and the node is in its view again.
-returns : (started (setting 1) seed (certificate 1 ∷ []) (left (setting 1) alone.node).node.stored).told ≡ at0 (told.Spent 2 (note 1 3 7)) ∷ at0 (told.Entered 1) ∷ []
+returns : (started (setting 1) nonces (certificate 1 ∷ []) (left (setting 1) alone.node).node.stored).told ≡ at0 (told.Spent 2 (note 1 3 7)) ∷ at0 (told.Entered 1) ∷ []
 unfolding all_numbers in_view_by started signs signs_and_sends wants takes lives state_of sends neighbours leaves left bits_where
 returns = refl
 

@@ -12,6 +12,7 @@ pub mod Handling
 pub mod Ticks
 pub mod Gathering
 pub mod Sendings
+pub mod GoingOut
 pub mod Gains
 pub mod RingLemmas
 pub mod GoingOn
@@ -42,3 +43,10 @@ pub mod SentRecords
 mod Plain
 mod ComingBack
 mod Spans
+pub mod Sources
+pub mod PingsTold
+pub mod LearnedLives
+mod Whole
+pub mod Told
+mod Readable
+mod Spelled

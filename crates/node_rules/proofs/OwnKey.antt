@@ -174,7 +174,7 @@ key-spread : (s : Setting) (own : Key) (n : Node) → KeepsKey s own n → Keeps
 unfolding certificate_of
 key-spread s own n h = record { own_key = h.own_key; within = h.within }
 
-keeping-key : (s : Setting) (own : Key) → Keeps s (λ c. KeepsKey s own c.node)
+pub keeping-key : (s : Setting) (own : Key) → Keeps s (λ c. KeepsKey s own c.node)
 unfolding IsOwnBody
 keeping-key s own =
     record {
@@ -247,8 +247,8 @@ stored-takes_all : (s : Setting) (records : List Record) (c : Call) → (takes_a
 stored-takes_all s [] c = refl
 stored-takes_all s (r ∷ records) c = stored-takes_all s records (takes s r c) ∙ stored-takes s r c
 
-pub stored-opened : (s : Setting) (seed : List ℕ) (certificates : List Record) (stored : Stored) → (opened s seed certificates stored).node.stored ≡ stored
-stored-opened s seed certificates stored = stored-takes_all s certificates (begun (blank s seed stored))
+pub stored-opened : (s : Setting) (nonces : ℕ → ℕ) (certificates : List Record) (stored : Stored) → (opened s nonces certificates stored).node.stored ≡ stored
+stored-opened s nonces certificates stored = stored-takes_all s certificates (begun (blank s nonces stored))
 
 opened-within : (s : Setting) (n : Node) (stored : Stored) → n.stored ≡ stored → stored.next < s.indexes → n.stored.next ≤ s.indexes
 opened-within s n stored kept left = omega (arith, ap (λ k. k.next) kept, left)
@@ -289,18 +289,18 @@ within-calls : (s : Setting) (n : Node) (inputs : List Input) → n.stored.next 
 within-calls s n [] h = h
 within-calls s n (i ∷ inputs) h = within-calls s (call_of s n i).node inputs (keeps-call s (λ c. c.node.stored.next ≤ s.indexes) (staying-within s) n i h)
 
-pub within-life : (s : Setting) (seed : List ℕ) (certificates : List Record) (stored : Stored) (inputs : List Input) → stored.next < s.indexes → (after_calls s (started s seed certificates stored).node inputs).stored.next ≤ s.indexes
+pub within-life : (s : Setting) (nonces : ℕ → ℕ) (certificates : List Record) (stored : Stored) (inputs : List Input) → stored.next < s.indexes → (after_calls s (started s nonces certificates stored).node inputs).stored.next ≤ s.indexes
 unfolding started
-within-life s seed certificates stored inputs left =
-    let c : Call = opened s seed certificates stored in
-    let kept : c.node.stored ≡ stored = stored-opened s seed certificates stored in
+within-life s nonces certificates stored inputs left =
+    let c : Call = opened s nonces certificates stored in
+    let kept : c.node.stored ≡ stored = stored-opened s nonces certificates stored in
     within-calls s (signs s (first_note s stored) c).node inputs (within-signs s (first_note s stored) c (opened-left s c.node stored kept left) (opened-within s c.node stored kept left))
 
-pub key-started : (s : Setting) (own : Key) (seed : List ℕ) (certificates : List Record) (stored : Stored) → AllByRecursion Certifies certificates → list_any (λ r. is_certificate_for s.me r.body) certificates ≡ true
-    → AllByRecursion (IsCertifiedBy s own) certificates → stored.next < s.indexes → KeepsKey s own (started s seed certificates stored).node
+pub key-started : (s : Setting) (own : Key) (nonces : ℕ → ℕ) (certificates : List Record) (stored : Stored) → AllByRecursion Certifies certificates → list_any (λ r. is_certificate_for s.me r.body) certificates ≡ true
+    → AllByRecursion (IsCertifiedBy s own) certificates → stored.next < s.indexes → KeepsKey s own (started s nonces certificates stored).node
 unfolding started IsOwnBody
-key-started s own seed certificates stored all mine good left =
-    let c : Call = opened s seed certificates stored in
-    let kept : c.node.stored ≡ stored = stored-opened s seed certificates stored in
-    let h : KeepsKey s own c.node = record { own_key = kit-has-own s own certificates (begun (blank s seed stored)) all good mine; within = opened-within s c.node stored kept left } in
+key-started s own nonces certificates stored all mine good left =
+    let c : Call = opened s nonces certificates stored in
+    let kept : c.node.stored ≡ stored = stored-opened s nonces certificates stored in
+    let h : KeepsKey s own c.node = record { own_key = kit-has-own s own certificates (begun (blank s nonces stored)) all good mine; within = opened-within s c.node stored kept left } in
     key-signs s own (first_note s stored) c refl (opened-left s c.node stored kept left) h

@@ -311,15 +311,15 @@ fault-none t joined newest_note n j g h = rw (j, g, h) refl
 first-good : (t stored : ℕ) → good_mask t (all_rings t) ≡ true → good_mask t (first_mask t stored) ≡ true
 first-good t stored all = cond_both (good_mask t stored) stored (all_rings t) (λ m. good_mask t m ≡ true) (λ it. it) (λ other. all)
 
-pub own-started : (s : Setting) (seed : List ℕ) (certificates : List Record) (stored : Stored) → good_mask s.group.t (all_rings s.group.t) ≡ true
-    → AllByRecursion (λ r. (x : CertBody) × (r.body ≡ Certificate x)) certificates → list_any (λ r. is_certificate_for s.me r.body) certificates ≡ true → KeepsOwnNote s (started s seed certificates stored).node
+pub own-started : (s : Setting) (nonces : ℕ → ℕ) (certificates : List Record) (stored : Stored) → good_mask s.group.t (all_rings s.group.t) ≡ true
+    → AllByRecursion (λ r. (x : CertBody) × (r.body ≡ Certificate x)) certificates → list_any (λ r. is_certificate_for s.me r.body) certificates ≡ true → KeepsOwnNote s (started s nonces certificates stored).node
 unfolding started state_of
-own-started s seed certificates stored all_good all mine =
-    let c : Call = opened s seed certificates stored in
+own-started s nonces certificates stored all_good all mine =
+    let c : Call = opened s nonces certificates stored in
     let note : NoteBody = record { member = s.me; epoch = stored.epoch + 1; mask = record { 0 = first_mask s.group.t stored.mask.0 } } in
     let st : State = state_of s c.node in
-    let none : st.notes ≡ [] = no_notes s certificates (begun (blank s seed stored)) all (blank-notes s seed stored) in
-    let joined : is_member st s.me ≡ true = becomes_member s certificates (begun (blank s seed stored)) all mine in
+    let none : st.notes ≡ [] = no_notes s certificates (begun (blank s nonces stored)) all (blank-notes s nonces stored) in
+    let joined : is_member st s.me ≡ true = becomes_member s certificates (begun (blank s nonces stored)) all mine in
     let allowed : note_mask s.group.t (first_mask s.group.t stored.mask.0) ≡ true = good-allowed s.group.t (first_mask s.group.t stored.mask.0) (first-good s.group.t stored.mask.0 all_good) in
     let fine : note_fault s.group.t st note ≡ None = fault-none s.group.t (is_member st s.me) (newest st.notes s.me) note joined allowed (ap (λ ns. newest ns s.me) none) in
     let at : state_of s (signs s (Note note) c).node ≡ (step s.group st (Notes note)).state = state-signs s (Note note) c in
@@ -332,5 +332,5 @@ own-started s seed certificates stored all_good all mine =
       allowed = ap (λ k. note_mask s.group.t k.mask.0) (stored-signs s (Note note) c) ∙ allowed;
     }
   where
-    blank-notes : (s : Setting) (seed : List ℕ) (stored : Stored) → (state_of s (blank s seed stored)).notes ≡ []
-    blank-notes s seed stored = refl
+    blank-notes : (s : Setting) (nonces : ℕ → ℕ) (stored : Stored) → (state_of s (blank s nonces stored)).notes ≡ []
+    blank-notes s nonces stored = refl

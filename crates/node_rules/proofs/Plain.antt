@@ -100,11 +100,11 @@ bare-opened : (s : Setting) (records : List Record) (c : Call) → s.heal ≡ No
 bare-opened s [] c none h = h
 bare-opened s (r ∷ records) c none h = bare-opened s records (takes s r c) none (bare-takes s r c none h)
 
-bare-started : (s : Setting) (seed : List ℕ) (certificates : List Record) (stored : Stored) → s.heal ≡ None → Bare (started s seed certificates stored).node
+bare-started : (s : Setting) (nonces : ℕ → ℕ) (certificates : List Record) (stored : Stored) → s.heal ≡ None → Bare (started s nonces certificates stored).node
 unfolding started
-bare-started s seed certificates stored none =
-    bare-signs s (first_note s stored) (opened s seed certificates stored) none
-    (bare-opened s certificates (begun (blank s seed stored)) none (record { news = refl; removals = λ m. refl }))
+bare-started s nonces certificates stored none =
+    bare-signs s (first_note s stored) (opened s nonces certificates stored) none
+    (bare-opened s certificates (begun (blank s nonces stored)) none (record { news = refl; removals = λ m. refl }))
 
 -- ---- the rules
 
@@ -151,9 +151,9 @@ lacking-plain n from theirs none =
     (filter_map-append n.held all (keys.Removal from ∷ []) ∙ ap (λ o. filter_map n.held all ++ cons_option o []) none ∙ nil-right (filter_map n.held all))
 
 pub lives-plain : LivesArePlain
-lives-plain s seed certificates stored inputs none =
-    let n : Node = after_calls s (started s seed certificates stored).node inputs in
-    let h : Bare n = bare-calls s (started s seed certificates stored).node inputs none (bare-started s seed certificates stored none) in
+lives-plain s nonces certificates stored inputs none =
+    let n : Node = after_calls s (started s nonces certificates stored).node inputs in
+    let h : Bare n = bare-calls s (started s nonces certificates stored).node inputs none (bare-started s nonces certificates stored none) in
     record {
       no_news = h.news;
       none_fresh = none-fresh n h.news;

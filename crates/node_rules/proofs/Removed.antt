@@ -215,16 +215,16 @@ out-opened : (s : Setting) (records : List Record) (c : Call) → AreOut s c.nod
 out-opened s [] c h = h
 out-opened s (r ∷ records) c h = out-opened s records (takes s r c) (out-takes s r c h)
 
-out-started : (s : Setting) (seed : List ℕ) (certificates : List Record) (stored : Stored)
-    → AreOut s (started s seed certificates stored).node
+out-started : (s : Setting) (nonces : ℕ → ℕ) (certificates : List Record) (stored : Stored)
+    → AreOut s (started s nonces certificates stored).node
 unfolding started
-out-started s seed certificates stored =
-    out-signs s (first_note s stored) (opened s seed certificates stored)
-    (out-opened s certificates (begun (blank s seed stored)) (λ m r held v. none_some r held))
+out-started s nonces certificates stored =
+    out-signs s (first_note s stored) (opened s nonces certificates stored)
+    (out-opened s certificates (begun (blank s nonces stored)) (λ m r held v. none_some r held))
 
-pub out-life : (s : Setting) (seed : List ℕ) (certificates : List Record) (stored : Stored) (inputs : List Input) (m : ℕ) (r : Record)
-    → (life_of s seed certificates stored inputs).held (keys.Removal m) ≡ Some r → in_view (state_of s (life_of s seed certificates stored inputs)) m ≡ false
-out-life s seed certificates stored inputs m r held =
-    let began : Node = (started s seed certificates stored).node in
+pub out-life : (s : Setting) (nonces : ℕ → ℕ) (certificates : List Record) (stored : Stored) (inputs : List Input) (m : ℕ) (r : Record)
+    → (life_of s nonces certificates stored inputs).held (keys.Removal m) ≡ Some r → in_view (state_of s (life_of s nonces certificates stored inputs)) m ≡ false
+out-life s nonces certificates stored inputs m r held =
+    let began : Node = (started s nonces certificates stored).node in
     let n : Node = after_calls s began inputs in
-    false_from_ne_true (in_view (state_of s n) m) (out-calls s began inputs (out-started s seed certificates stored) m r held)
+    false_from_ne_true (in_view (state_of s n) m) (out-calls s began inputs (out-started s nonces certificates stored) m r held)

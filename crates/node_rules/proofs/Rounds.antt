@@ -20,9 +20,8 @@ use Rattle.node_rules.specs.Deliveries.{handles, delivered}
 use Rattle.node_rules.specs.Ticking.{accuses, fresh, spreads, passed, probed_at, due_tick, ticked}
 use Rattle.node_rules.specs.Starting.{started}
 use Rattle.node_rules.specs.Outgoing.{at_tick, to_accuse, goes_out, accusing_told}
-use Rattle.detector.specs.Silence.{nonce}
 use Rattle.ff_ids.specs.declared.summary.SummaryEntry.{SummaryEntry}
-use Rattle.node_rules.proofs.Rows.{setting, seed, certificate, new_store, acc, accused, noted}
+use Rattle.node_rules.proofs.Rows.{setting, nonces, certificate, new_store, acc, accused, noted}
 
 -- Three nodes, and the datagrams that are on their way, oldest first.
 record Group3 : Type 0 where
@@ -32,7 +31,7 @@ record Group3 : Type 0 where
   way : List (ℕ × List ℕ)
 
 abbrev starting : ℕ → Node
-starting me = (started (setting me) seed (certificate 1 ∷ certificate 2 ∷ certificate 3 ∷ []) new_store).node
+starting me = (started (setting me) nonces (certificate 1 ∷ certificate 2 ∷ certificate 3 ∷ []) new_store).node
 
 abbrev all_started : Group3
 all_started = record { one = starting 1; two = starting 2; three = starting 3; way = [] }
@@ -91,7 +90,7 @@ abbrev whats : ℕ → List what.What
 whats n = map (λ e. e.what) (ticked (setting 1) (alone n)).told
 
 abbrev ping : ℕ → List ℕ
-ping k = datagram_bytes (kinds.Ping 1 (nonce seed k))
+ping k = datagram_bytes (kinds.Ping 1 (nonces k))
 
 abbrev entry : ℕ → ℕ → ℕ → ℕ → SummaryEntry
 entry member epoch mask rings = record { member = member; epoch = epoch; mask = record { 0 = mask }; rings = rings }

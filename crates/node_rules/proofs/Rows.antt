@@ -21,6 +21,7 @@ use Rattle.datagram.specs.Grammar.{head_at, counted_at, records_at, content_at, 
 use Rattle.journal.specs.declared.event.Event as journal
 use Rattle.journal.specs.declared.event.What as whats
 use Rattle.journal.specs.declared.event.What.TheVariants as told
+use Rattle.detector.specs.Silence.{nonce}
 use Rattle.node_rules.specs.Nodes.{Setting, state_of, certificate_of, neighbours}
 use Rattle.rebuttal.specs.Rebuttals.{answering_mask}
 use Rattle.node_rules.specs.Refusals.{refusal}
@@ -59,8 +60,8 @@ setting me =
       signature = λ q body. q ∷ [];
     }
 
-abbrev pub seed : List ℕ
-seed = replicate 32 0
+abbrev pub nonces : ℕ → ℕ
+nonces = nonce (replicate 32 0)
 
 abbrev pub certificate : ℕ → Record
 certificate m = record { body = Certificate (record { member = m; port = 20000; key = key }); signature = 9 ∷ [] }
@@ -79,7 +80,7 @@ accused accuser accused_one epoch ring = record { accuser = accuser; accused = a
 
 -- A life of node 1 beside member 2.
 abbrev first : Call
-first = started (setting 1) seed (certificate 1 ∷ certificate 2 ∷ []) new_store
+first = started (setting 1) nonces (certificate 1 ∷ certificate 2 ∷ []) new_store
 
 abbrev pub at0 : whats.What → journal.Event
 at0 what = record { moment = 0; what = what }
@@ -150,7 +151,7 @@ stopped = (refl, refl, refl)
 
 -- The key is used up: no answer is signed, and the life goes on.
 abbrev pub last_life : Call
-last_life = started (setting 1) seed (certificate 1 ∷ certificate 2 ∷ []) (record { next = 31; epoch = 31; mask = record { 0 = 7 } })
+last_life = started (setting 1) nonces (certificate 1 ∷ certificate 2 ∷ []) (record { next = 31; epoch = 31; mask = record { 0 = 7 } })
 
 used_up : ((delivered (setting 1) (delivered (setting 1) last_life.node (given (note 2 1 7))).node (given (acc 2 1 32 0))).told
     ≡ at0 (told.Took (acc 2 1 32 0) None) ∷ at0 (told.Exhausted 32) ∷ [])

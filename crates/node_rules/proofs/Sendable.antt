@@ -34,7 +34,7 @@ records-long : (records : List Record) → length records ≤ length (flat_map r
 records-long [] = omega arith
 records-long (r ∷ records) = omega (arith, length-append (record_bytes r) (flat_map record_bytes records), record-long r, records-long records)
 
-fitting-short : (left : ℕ) (records : List Record) → length (flat_map record_bytes (fitting left records)) ≤ left
+pub fitting-short : (left : ℕ) (records : List Record) → length (flat_map record_bytes (fitting left records)) ≤ left
 fitting-short left [] = omega arith
 fitting-short left (r ∷ records) =
     let n : ℕ = length (record_bytes r) in
@@ -42,13 +42,13 @@ fitting-short left (r ∷ records) =
     (λ yes. omega (arith, length-append (record_bytes r) (flat_map record_bytes (fitting (left - n) records)), fitting-short (left - n) records, leb-true n left yes))
     (λ no. omega arith)
 
-fitting-all : (P : Record → Type 0) (left : ℕ) (records : List Record) → AllByRecursion P records → AllByRecursion P (fitting left records)
+pub fitting-all : (P : Record → Type 0) (left : ℕ) (records : List Record) → AllByRecursion P records → AllByRecursion P (fitting left records)
 fitting-all P left [] all = tt
 fitting-all P left (r ∷ records) all =
     let n : ℕ = length (record_bytes r) in
     cond_both (leb n left) (r ∷ fitting (left - n) records) [] (AllByRecursion P) (λ yes. (all.0, fitting-all P (left - n) records all.1)) (λ no. tt)
 
-held-all : (P : Record → Type 0) (held : Holding) (records : List Record) → ((k : RecordKey) (r : Record) → held k ≡ Some r → P r) → AllByRecursion (λ r. (k : RecordKey) × (held k ≡ Some r)) records → AllByRecursion P records
+pub held-all : (P : Record → Type 0) (held : Holding) (records : List Record) → ((k : RecordKey) (r : Record) → held k ≡ Some r → P r) → AllByRecursion (λ r. (k : RecordKey) × (held k ≡ Some r)) records → AllByRecursion P records
 held-all P held [] formed all = tt
 held-all P held (r ∷ records) formed all = (formed all.0.0 r all.0.1, held-all P held records formed all.1)
 
@@ -58,7 +58,7 @@ lacking-all n from theirs formed =
     let keys : List RecordKey = wanted n from theirs in
     fitting-all IsSignedRecord room (filter_map n.held keys) (held-all IsSignedRecord n.held (filter_map n.held keys) formed (all-filter_map n.held keys))
 
-lacking-short : (n : Node) (from : ℕ) (theirs : Summary) → length (flat_map record_bytes (lacking n from theirs)) ≤ room
+pub lacking-short : (n : Node) (from : ℕ) (theirs : Summary) → length (flat_map record_bytes (lacking n from theirs)) ≤ room
 unfolding lacking
 lacking-short n from theirs = fitting-short room (filter_map n.held (wanted n from theirs))
 
@@ -71,7 +71,7 @@ unfolding records_bytes
 records-bytes_long records = omega (arith, length-append (to_be_bytes w16 (length records)) (flat_map record_bytes records), two_bytes (length records))
 
 -- Records that have a spelling, and fit, are a datagram.
-is-datagram : (from : ℕ) (records : List Record) → from < MEMBERS → 0 < length records → AllByRecursion IsSignedRecord records → length (flat_map record_bytes records) ≤ room
+pub is-datagram : (from : ℕ) (records : List Record) → from < MEMBERS → 0 < length records → AllByRecursion IsSignedRecord records → length (flat_map record_bytes records) ≤ room
     → IsDatagram (datagram_bytes (kinds.Records from records)) (kinds.Records from records)
 is-datagram from records sender some all short =
     record {

@@ -1,5 +1,5 @@
 -- Each record that a life has come by verifies under its author's key, and so does each that is sent.
-use Rattle.std.proofs.Common.{◌≡◌, ℕ, ◌≤◌, ◌<◌, true, false, cond, inl, inr, ◌⊎◌, List, [], ◌∷◌, ◌++◌, Option, Some, None, map, refl, ap, sym, ◌∙◌, subst}
+use Rattle.std.proofs.Common.{◌≡◌, ℕ, ◌≤◌, ◌<◌, Bool, true, false, cond, inl, inr, ◌⊎◌, List, [], ◌∷◌, ◌++◌, Option, Some, None, map, refl, ap, sym, ◌∙◌, subst}
 use Rattle.std.specs.Prelude.{Result, Ok, Err, is_some, filter_map, Contains}
 use Rattle.std.specs.List.{AllByRecursion}
 use Rattle.std.proofs.lemmas.Bool.{false≢true}
@@ -32,16 +32,17 @@ use Rattle.node_rules.specs.Lives.{Input, Delivers, Ticks, IsKit, call_of, after
 use Rattle.node_rules.specs.OnDisks.{called}
 use Rattle.node_rules.specs.Verdicts.{records_in, when_handled}
 use Rattle.node_rules.specs.Known.{SendsKnown, IsOfKnown, accepted_in, accepted_of, gathered, known_in, made_by, records_of, signed_in}
+use Rattle.node_rules.specs.Claims.{ClaimedVerify, IsOfSound, IsSound, SendsSound, claims_all, signer_of}
 use Rattle.node_rules.specs.Vouching.{IsAuthentic, IsCertifiedBy, IsOfAuthentic, OwnSignaturesVerify, SendsAuthentic, author_key}
 use Rattle.node_rules.proofs.Accusations.{In-from_filter_map}
 use Rattle.node_rules.proofs.Called.{delivered_until, holds-called, ticked_until, left_until}
 use Rattle.node_rules.proofs.Carrying.{Carries, carries-call, carries-delivered_until, carries-ticked_until, is_beside, carries-left_until}
-use Rattle.node_rules.proofs.Correctness.{Certifies, KeepsAll, Verifies, all-started, index-left, key-follows, keeping-all, takes_all, verified}
+use Rattle.node_rules.proofs.Correctness.{Certifies, Verifies, index-left, key-follows, takes_all, verified}
 use Rattle.node_rules.proofs.Gathering.{call-sends, delivered_until-sends, held-life, ticked_until-sends, left_until-sends}
 use Rattle.node_rules.proofs.Growth.{Follows, accusation-is_none, follows-itself, follows-signs, following, note-is_none}
 use Rattle.node_rules.proofs.Handling.{node-handles}
 use Rattle.node_rules.proofs.Keeping.{keeps-call, keeps-delivered_until, keeps-handles_all, keeps-ticked_until, keeps-left_until}
-use Rattle.node_rules.proofs.OwnKey.{stored-opened}
+use Rattle.node_rules.proofs.OwnKey.{KeepsKey, key-started, keeping-key, stored-opened}
 use Rattle.node_rules.proofs.OwnNote.{option_or-none}
 use Rattle.node_rules.proofs.Upholding.{none_some}
 
@@ -152,55 +153,65 @@ signed-signs s b c r i = signed-spends s b c r (signed-takes s (own_record s c.n
 
 -- ---- a call
 
--- A correct node's call, of which everything that it has signed is authentic.
-record Good (s : Setting) (own : Key) (c : Call) : Type 0 where
-  all : KeepsAll s own c.node
-  signed : (r : Record) → In (signed_in s c) r → IsAuthentic s c.node r
+sound-follows : (claimed : ℕ → Body → Bool) (s : Setting) (n later : Node) (r : Record) → Follows s n later → IsSound claimed s n r → IsSound claimed s later r
+sound-follows claimed s n later r f (inl unclaimed) = inl unclaimed
+sound-follows claimed s n later r f (inr h) = inr (authentic-follows s n later r f h)
 
-good-then : (s : Setting) (own : Key) (c d : Call) → KeepsAll s own d.node → Follows s c.node d.node → ((r : Record) → In (signed_in s d) r → In (signed_in s c) r) → Good s own c → Good s own d
-good-then s own c d all f same h = record { all = all; signed = λ r i. authentic-follows s c.node d.node r f (h.signed r (same r i)) }
+-- A call of a node with the key, of which everything that it has signed verifies, where that is claimed.
+record Good (claimed : ℕ → Body → Bool) (s : Setting) (own : Key) (c : Call) : Type 0 where
+  all : KeepsKey s own c.node
+  signed : (r : Record) → In (signed_in s c) r → IsSound claimed s c.node r
+
+good-then : (claimed : ℕ → Body → Bool) (s : Setting) (own : Key) (c d : Call) → KeepsKey s own d.node → Follows s c.node d.node → ((r : Record) → In (signed_in s d) r → In (signed_in s c) r) → Good claimed s own c → Good claimed s own d
+good-then claimed s own c d all f same h = record { all = all; signed = λ r i. sound-follows claimed s c.node d.node r f (h.signed r (same r i)) }
 
 -- an own signature, with an index that is left
-good-signs : (s : Setting) (own : Key) (b : Body) (c : Call) → OwnSignaturesVerify s own → author_key s c.node b ≡ public_key_of c.node s.me → ((x : CertBody) → b ≡ Certificate x → ⊥) → is_used_up s c.node ≡ false
-    → KeepsAll s own (signs s b c).node → Good s own c → Good s own (signs s b c)
-good-signs s own b c sign mine other left all h =
+own-sound : (claimed : ℕ → Body → Bool) (s : Setting) (own : Key) (n later : Node) (b : Body) → ClaimedVerify claimed s own → signer_of b ≡ Some s.me → author_key s later b ≡ Some own → n.stored.next < s.indexes → IsSound claimed s later (own_record s n b)
+own-sound claimed s own n later b sign by_me mine index = by (claimed n.stored.next b) refl
+  where
+    by : (k : Bool) → claimed n.stored.next b ≡ k → IsSound claimed s later (own_record s n b)
+    by true is = inr (record { key = own; author_is = mine; verifies = sign n.stored.next b is index })
+    by false is = inl (record { own = by_me; index = n.stored.next; unclaimed = is; signed = refl })
+
+good-signs : (claimed : ℕ → Body → Bool) (s : Setting) (own : Key) (b : Body) (c : Call) → ClaimedVerify claimed s own → signer_of b ≡ Some s.me → author_key s c.node b ≡ public_key_of c.node s.me → ((x : CertBody) → b ≡ Certificate x → ⊥) → is_used_up s c.node ≡ false
+    → KeepsKey s own (signs s b c).node → Good claimed s own c → Good claimed s own (signs s b c)
+good-signs claimed s own b c sign by_me mine other left all h =
     let d : Call = signs s b c in
     let f : Follows s c.node d.node = follows-signs s c.node b c other (follows-itself s c.node) in
-    let own_one : IsAuthentic s c.node (own_record s c.node b) =
-    record { key = own; author_is = mine ∙ h.all.own_key; verifies = sign c.node.stored.next b (index-left s c.node left h.all.within) } in
+    let own_one : IsSound claimed s c.node (own_record s c.node b) = own-sound claimed s own c.node c.node b sign by_me (mine ∙ h.all.own_key) (index-left s c.node left h.all.within) in
     record {
       all = all;
       signed = λ r i. elim (signed-signs s b c r i) [
-        | inl j ↦ authentic-follows s c.node d.node r f (h.signed r j)
-        | inr same ↦ authentic-follows s c.node d.node r f (subst (IsAuthentic s c.node) same own_one)
+        | inl j ↦ sound-follows claimed s c.node d.node r f (h.signed r j)
+        | inr same ↦ sound-follows claimed s c.node d.node r f (subst (IsSound claimed s c.node) same own_one)
       ];
     }
 
-carrying : (s : Setting) (own : Key) → 1 ≤ s.group.t → OwnSignaturesVerify s own → Carries s (Good s own)
-carrying s own some sign =
-    let k = keeping-all s own some sign in
+carrying : (claimed : ℕ → Body → Bool) (s : Setting) (own : Key) → ClaimedVerify claimed s own → Carries s (Good claimed s own)
+carrying claimed s own sign =
+    let k = keeping-key s own in
     record {
       told = λ what c beside h. record { all = h.all; signed = λ r i. h.signed r (signed-tells s what c r (made-beside s what beside) i) };
-      sent = λ d c to h. good-then s own c (sends s d c to) (k.sent d c to h.all) ((following s c.node).sent d c to (follows-itself s c.node)) (signed-sends s d c to) h;
-      taken = λ r c fine h. good-then s own c (takes s r c) (k.taken r c fine h.all) ((following s c.node).taken r c fine (follows-itself s c.node)) (signed-takes s r c) h;
+      sent = λ d c to h. good-then claimed s own c (sends s d c to) (k.sent d c to h.all) ((following s c.node).sent d c to (follows-itself s c.node)) (signed-sends s d c to) h;
+      taken = λ r c fine h. good-then claimed s own c (takes s r c) (k.taken r c fine h.all) ((following s c.node).taken r c fine (follows-itself s c.node)) (signed-takes s r c) h;
       answered = λ r a c fine is me may left h.
           let c1 : Call = takes s r c in
-          let h1 : Good s own c1 = good-then s own c c1 (k.taken r c fine h.all) ((following s c.node).taken r c fine (follows-itself s c.node)) (signed-takes s r c) h in
-          good-signs s own (answer_to s c1.node.stored a) c1 sign refl (λ x e. note-is_none _ x e) left (k.answered r a c fine is me may left h.all) h1;
+          let h1 : Good claimed s own c1 = good-then claimed s own c c1 (k.taken r c fine h.all) ((following s c.node).taken r c fine (follows-itself s c.node)) (signed-takes s r c) h in
+          good-signs claimed s own (answer_to s c1.node.stored a) c1 sign refl refl (λ x e. note-is_none _ x e) left (k.answered r a c fine is me may left h.all) h1;
       returned = λ r a c asks may left h.
           let note : NoteBody = returning_note s c.node.stored in
-          good-signs s own (Note note) c sign refl (note-is_none note) left (k.returned r a c asks may left h.all) h;
-      accused = λ a c by left h. good-signs s own (Accusation a) c sign (ap (public_key_of c.node) by) (accusation-is_none a) left (k.accused a c by left h.all) h;
-      departed = λ c left h. good-signs s own (leaving s c.node.stored) c sign refl (λ x e. note-is_none _ x e) left (k.departed c left h.all) h;
+          good-signs claimed s own (Note note) c sign refl refl (note-is_none note) left (k.returned r a c asks may left h.all) h;
+      accused = λ a c by left h. good-signs claimed s own (Accusation a) c sign (ap (λ m. Some m) by) (ap (public_key_of c.node) by) (accusation-is_none a) left (k.accused a c by left h.all) h;
+      departed = λ c left h. good-signs claimed s own (leaving s c.node.stored) c sign refl refl (λ x e. note-is_none _ x e) left (k.departed c left h.all) h;
       stopped = λ c h. record { all = k.stopped c h.all; signed = λ r i. h.signed r (signed-tells s told.Stopped c r refl i) };
-      passed = λ c h. good-then s own c (lives s Passes c) (k.passed c h.all) ((following s c.node).passed c (follows-itself s c.node)) (signed-lives s Passes c) h;
-      probed = λ p c h. good-then s own c (record c { node = record c.node { probes = p } }) (k.probed p c h.all) ((following s c.node).probed p c (follows-itself s c.node)) (λ r i. i) h;
-      spanned = λ c h. good-then s own c (record c { node = record c.node { since = c.node.stored.epoch } }) (k.spanned c h.all) ((following s c.node).spanned c (follows-itself s c.node)) (λ r i. i) h;
-      spread = λ c h. good-then s own c (record c { node = record c.node { news = [] } }) (k.spread c h.all) ((following s c.node).spread c (follows-itself s c.node)) (λ r i. i) h;
+      passed = λ c h. good-then claimed s own c (lives s Passes c) (k.passed c h.all) ((following s c.node).passed c (follows-itself s c.node)) (signed-lives s Passes c) h;
+      probed = λ p c h. good-then claimed s own c (record c { node = record c.node { probes = p } }) (k.probed p c h.all) ((following s c.node).probed p c (follows-itself s c.node)) (λ r i. i) h;
+      spanned = λ c h. good-then claimed s own c (record c { node = record c.node { since = c.node.stored.epoch } }) (k.spanned c h.all) ((following s c.node).spanned c (follows-itself s c.node)) (λ r i. i) h;
+      spread = λ c h. good-then claimed s own c (record c { node = record c.node { news = [] } }) (k.spread c h.all) ((following s c.node).spread c (follows-itself s c.node)) (λ r i. i) h;
     }
 
-good-begun : (s : Setting) (own : Key) (n : Node) → KeepsAll s own n → Good s own (begun n)
-good-begun s own n all = record { all = all; signed = λ r i. absurd i }
+good-begun : (claimed : ℕ → Body → Bool) (s : Setting) (own : Key) (n : Node) → KeepsKey s own n → Good claimed s own (begun n)
+good-begun claimed s own n all = record { all = all; signed = λ r i. absurd i }
 
 -- ---- what a call accepts
 
@@ -238,18 +249,18 @@ call-accepts s n Leaves r i = absurd i
 
 -- ---- lives
 
-gathered-authentic : (s : Setting) (own : Key) → 1 ≤ s.group.t → OwnSignaturesVerify s own → (n : Node) (known : List Record) (inputs : List Input) → KeepsAll s own n → ((r : Record) → In known r → IsAuthentic s n r)
-    → KeepsAll s own (after_calls s n inputs) × ((r : Record) → In (gathered s n known inputs) r → IsAuthentic s (after_calls s n inputs) r)
-gathered-authentic s own some sign n known [] all h = (all, h)
-gathered-authentic s own some sign n known (i ∷ inputs) all h =
+gathered-sound : (claimed : ℕ → Body → Bool) (s : Setting) (own : Key) → ClaimedVerify claimed s own → (n : Node) (known : List Record) (inputs : List Input) → KeepsKey s own n → ((r : Record) → In known r → IsSound claimed s n r)
+    → KeepsKey s own (after_calls s n inputs) × ((r : Record) → In (gathered s n known inputs) r → IsSound claimed s (after_calls s n inputs) r)
+gathered-sound claimed s own sign n known [] all h = (all, h)
+gathered-sound claimed s own sign n known (i ∷ inputs) all h =
     let c : Call = call_of s n i in
-    let good : Good s own c = carries-call s (Good s own) (carrying s own some sign) n i (good-begun s own n all) in
+    let good : Good claimed s own c = carries-call s (Good claimed s own) (carrying claimed s own sign) n i (good-begun claimed s own n all) in
     let f : Follows s n c.node = keeps-call s (λ y. Follows s n y.node) (following s n) n i (follows-itself s n) in
-    gathered-authentic s own some sign c.node (known ++ accepted_in s n i ++ signed_in s c) inputs good.all
+    gathered-sound claimed s own sign c.node (known ++ accepted_in s n i ++ signed_in s c) inputs good.all
     (λ r j. elim (In-append_cases (known ++ accepted_in s n i) (signed_in s c) r j) [
       | inl k ↦ elim (In-append_cases known (accepted_in s n i) r k) [
-        | inl l ↦ authentic-follows s n c.node r f (h r l)
-        | inr l ↦ call-accepts s n i r l
+        | inl l ↦ sound-follows claimed s n c.node r f (h r l)
+        | inr l ↦ inr (call-accepts s n i r l)
       ]
       | inr k ↦ good.signed r k
     ])
@@ -266,67 +277,86 @@ certified-authentic s own n records all good r i =
     record { key = s.authority; author_is = ap (author_key s n) c.1; verifies = by.0 }
 
 -- the first note
-started-signs : (s : Setting) (own : Key) (seed : List ℕ) (certificates : List Record) (stored : Stored) → OwnSignaturesVerify s own → stored.next < s.indexes → KeepsAll s own (started s seed certificates stored).node
-    → (r : Record) → In (signed_in s (started s seed certificates stored)) r → IsAuthentic s (started s seed certificates stored).node r
+started-signs : (claimed : ℕ → Body → Bool) (s : Setting) (own : Key) (nonces : ℕ → ℕ) (certificates : List Record) (stored : Stored) → ClaimedVerify claimed s own → stored.next < s.indexes → KeepsKey s own (started s nonces certificates stored).node
+    → (r : Record) → In (signed_in s (started s nonces certificates stored)) r → IsSound claimed s (started s nonces certificates stored).node r
 unfolding started
-started-signs s own seed certificates stored sign left all r i =
-    let c : Call = opened s seed certificates stored in
+started-signs claimed s own nonces certificates stored sign left all r i =
+    let c : Call = opened s nonces certificates stored in
     let b : Body = first_note s stored in
-    let index : c.node.stored.next < s.indexes = subst (λ (x : Stored). x.next < s.indexes) (sym (stored-opened s seed certificates stored)) left in
+    let index : c.node.stored.next < s.indexes = subst (λ (x : Stored). x.next < s.indexes) (sym (stored-opened s nonces certificates stored)) left in
     elim (signed-signs s b c r i) [
-      | inl j ↦ absurd (signed-takes_all s certificates (begun (blank s seed stored)) r j)
+      | inl j ↦ absurd (signed-takes_all s certificates (begun (blank s nonces stored)) r j)
       | inr same ↦
-          let first : IsAuthentic s (signs s b c).node (own_record s c.node b) =
-          record { key = own; author_is = all.own_key; verifies = sign c.node.stored.next b index } in
-          subst (IsAuthentic s (signs s b c).node) same first
+          let first : IsSound claimed s (signs s b c).node (own_record s c.node b) = own-sound claimed s own c.node (signs s b c).node b sign refl all.own_key index in
+          subst (IsSound claimed s (signs s b c).node) same first
     ]
 
-life-authentic : (s : Setting) (own : Key) (seed : List ℕ) (certificates : List Record) (stored : Stored) (inputs : List Input) → 1 ≤ s.group.t → IsKit s certificates → AllByRecursion (IsCertifiedBy s own) certificates
-    → OwnSignaturesVerify s own → stored.next < s.indexes
-    → KeepsAll s own (life_of s seed certificates stored inputs) × ((r : Record) → In (known_in s seed certificates stored inputs) r → IsAuthentic s (life_of s seed certificates stored inputs) r)
-life-authentic s own seed certificates stored inputs some kit good sign left =
-    let d : Call = started s seed certificates stored in
-    let all : KeepsAll s own d.node = all-started s own seed certificates stored kit.all kit.own good sign left in
-    gathered-authentic s own some sign d.node (certificates ++ signed_in s d) inputs all
+life-sound : (claimed : ℕ → Body → Bool) (s : Setting) (own : Key) (nonces : ℕ → ℕ) (certificates : List Record) (stored : Stored) (inputs : List Input) → IsKit s certificates → AllByRecursion (IsCertifiedBy s own) certificates
+    → ClaimedVerify claimed s own → stored.next < s.indexes
+    → KeepsKey s own (life_of s nonces certificates stored inputs) × ((r : Record) → In (known_in s nonces certificates stored inputs) r → IsSound claimed s (life_of s nonces certificates stored inputs) r)
+life-sound claimed s own nonces certificates stored inputs kit good sign left =
+    let d : Call = started s nonces certificates stored in
+    let all : KeepsKey s own d.node = key-started s own nonces certificates stored kit.all kit.own good left in
+    gathered-sound claimed s own sign d.node (certificates ++ signed_in s d) inputs all
     (λ r i. elim (In-append_cases certificates (signed_in s d) r i) [
-      | inl j ↦ certified-authentic s own d.node certificates kit.all good r j
-      | inr j ↦ started-signs s own seed certificates stored sign left all r j
+      | inl j ↦ inr (certified-authentic s own d.node certificates kit.all good r j)
+      | inr j ↦ started-signs claimed s own nonces certificates stored sign left all r j
     ])
 
 -- ---- what is sent
 
-sends-authentic : (s : Setting) (own : Key) (known : List Record) (n : Node) (c : Call) → ((r : Record) → In known r → IsAuthentic s n r) → Follows s n c.node → Good s own c → SendsKnown s known c → SendsAuthentic s c
-sends-authentic s own known n c are f good sent =
+sends-sound : (claimed : ℕ → Body → Bool) (s : Setting) (own : Key) (known : List Record) (n : Node) (c : Call) → ((r : Record) → In known r → IsSound claimed s n r) → Follows s n c.node → Good claimed s own c → SendsKnown s known c → SendsSound claimed s c
+sends-sound claimed s own known n c are f good sent =
     let all : List Record = known ++ signed_in s c in
-    let each : (r : Record) → In all r → IsAuthentic s c.node r =
-    λ r i. elim (In-append_cases known (signed_in s c) r i) [ inl j ↦ authentic-follows s n c.node r f (are r j) | inr j ↦ good.signed r j ] in
-    All-from_In (λ (d : ℕ × List ℕ). IsOfAuthentic s c.node d.1) c.sent
+    let each : (r : Record) → In all r → IsSound claimed s c.node r =
+    λ r i. elim (In-append_cases known (signed_in s c) r i) [ inl j ↦ sound-follows claimed s n c.node r f (are r j) | inr j ↦ good.signed r j ] in
+    All-from_In (λ (d : ℕ × List ℕ). IsOfSound claimed s c.node d.1) c.sent
     (λ d i.
     let h = All-at (λ (d : ℕ × List ℕ). IsOfKnown all d.1) c.sent d sent i in
     record {
       datagram = h.datagram;
       spelled = h.spelled;
-      records = All-from_In (IsAuthentic s c.node) (records_of h.datagram)
+      records = All-from_In (IsSound claimed s c.node) (records_of h.datagram)
           (λ r j. each r (In-from_Contains all r (All-at (Contains all) (records_of h.datagram) r h.records j)));
     })
 
-pub sent-authentic : (s : Setting) (own : Key) (seed : List ℕ) (certificates : List Record) (stored : Stored) (inputs : List Input) (i : Input) (fails_at : Option ℕ) → 1 ≤ s.group.t → IsKit s certificates
-    → AllByRecursion (IsCertifiedBy s own) certificates → OwnSignaturesVerify s own → stored.next < s.indexes → SendsAuthentic s (called s (life_of s seed certificates stored inputs) i fails_at)
-sent-authentic s own seed certificates stored inputs i fails_at some kit good sign left =
-    let n : Node = life_of s seed certificates stored inputs in
-    let known : List Record = known_in s seed certificates stored inputs in
-    let life = life-authentic s own seed certificates stored inputs some kit good sign left in
-    let held = held-life s seed certificates stored inputs in
-    let k = carrying s own some sign in
-    let begins : Good s own (begun n) = good-begun s own n life.0 in
+pub sent-sound : (claimed : ℕ → Body → Bool) (s : Setting) (own : Key) (nonces : ℕ → ℕ) (certificates : List Record) (stored : Stored) (inputs : List Input) (i : Input) (fails_at : Option ℕ) → IsKit s certificates
+    → AllByRecursion (IsCertifiedBy s own) certificates → ClaimedVerify claimed s own → stored.next < s.indexes → SendsSound claimed s (called s (life_of s nonces certificates stored inputs) i fails_at)
+sent-sound claimed s own nonces certificates stored inputs i fails_at kit good sign left =
+    let n : Node = life_of s nonces certificates stored inputs in
+    let known : List Record = known_in s nonces certificates stored inputs in
+    let life = life-sound claimed s own nonces certificates stored inputs kit good sign left in
+    let held = held-life s nonces certificates stored inputs in
+    let k = carrying claimed s own sign in
+    let begins : Good claimed s own (begun n) = good-begun claimed s own n life.0 in
     let same : Follows s n n = follows-itself s n in
-    holds-called s n (λ i c. SendsAuthentic s c)
-    (λ i. sends-authentic s own known n (call_of s n i) life.1 (keeps-call s (λ y. Follows s n y.node) (following s n) n i same)
-    (carries-call s (Good s own) k n i begins) (call-sends s known n i held))
-    (λ bytes records r. sends-authentic s own known n (delivered_until s n records r) life.1 (keeps-delivered_until s (λ y. Follows s n y.node) (following s n) n records r same)
-    (carries-delivered_until s (Good s own) k n records r begins) (delivered_until-sends s known n records r held))
-    (λ silent m. sends-authentic s own known n (ticked_until s n silent m) life.1 (keeps-ticked_until s (λ y. Follows s n y.node) (following s n) n silent m same)
-    (carries-ticked_until s (Good s own) k n silent m begins) (ticked_until-sends s known n silent m held))
-    (sends-authentic s own known n (left_until s n) life.1 (keeps-left_until s (λ y. Follows s n y.node) (following s n) n same)
-    (carries-left_until s (Good s own) k n begins) (left_until-sends s known n held))
+    holds-called s n (λ i c. SendsSound claimed s c)
+    (λ i. sends-sound claimed s own known n (call_of s n i) life.1 (keeps-call s (λ y. Follows s n y.node) (following s n) n i same)
+    (carries-call s (Good claimed s own) k n i begins) (call-sends s known n i held))
+    (λ bytes records r. sends-sound claimed s own known n (delivered_until s n records r) life.1 (keeps-delivered_until s (λ y. Follows s n y.node) (following s n) n records r same)
+    (carries-delivered_until s (Good claimed s own) k n records r begins) (delivered_until-sends s known n records r held))
+    (λ silent m. sends-sound claimed s own known n (ticked_until s n silent m) life.1 (keeps-ticked_until s (λ y. Follows s n y.node) (following s n) n silent m same)
+    (carries-ticked_until s (Good claimed s own) k n silent m begins) (ticked_until-sends s known n silent m held))
+    (sends-sound claimed s own known n (left_until s n) life.1 (keeps-left_until s (λ y. Follows s n y.node) (following s n) n same)
+    (carries-left_until s (Good claimed s own) k n begins) (left_until-sends s known n held))
     i fails_at
+
+-- ---- where all of it is claimed
+
+all-claimed : (s : Setting) (n : Node) (r : Record) → IsSound claims_all s n r → IsAuthentic s n r
+all-claimed s n r (inl h) = absurd (false≢true (sym h.unclaimed))
+all-claimed s n r (inr h) = h
+
+records-claimed : (s : Setting) (n : Node) (records : List Record) → AllByRecursion (IsSound claims_all s n) records → AllByRecursion (IsAuthentic s n) records
+records-claimed s n [] h = tt
+records-claimed s n (r ∷ records) h = (all-claimed s n r h.0, records-claimed s n records h.1)
+
+sent-claimed : (s : Setting) (n : Node) (sent : List (ℕ × List ℕ)) → AllByRecursion (λ (d : ℕ × List ℕ). IsOfSound claims_all s n d.1) sent → AllByRecursion (λ (d : ℕ × List ℕ). IsOfAuthentic s n d.1) sent
+sent-claimed s n [] h = tt
+sent-claimed s n (d ∷ sent) h = (record { datagram = h.0.datagram; spelled = h.0.spelled; records = records-claimed s n (records_of h.0.datagram) h.0.records }, sent-claimed s n sent h.1)
+
+pub sent-authentic : (s : Setting) (own : Key) (nonces : ℕ → ℕ) (certificates : List Record) (stored : Stored) (inputs : List Input) (i : Input) (fails_at : Option ℕ) → 1 ≤ s.group.t → IsKit s certificates
+    → AllByRecursion (IsCertifiedBy s own) certificates → OwnSignaturesVerify s own → stored.next < s.indexes → SendsAuthentic s (called s (life_of s nonces certificates stored inputs) i fails_at)
+sent-authentic s own nonces certificates stored inputs i fails_at some kit good sign left =
+    let c : Call = called s (life_of s nonces certificates stored inputs) i fails_at in
+    sent-claimed s c.node c.sent (sent-sound claims_all s own nonces certificates stored inputs i fails_at kit good (λ index body claimed. sign index body) left)

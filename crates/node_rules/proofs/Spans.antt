@@ -123,21 +123,21 @@ since-takes_all s (r ∷ records) c =
     let later = since-takes_all s records (takes s r c) in
     (later.0 ∙ here.0, later.1 ∙ here.1)
 
-within-started : (s : Setting) (most : ℕ) (seed : List ℕ) (certificates : List Record) (stored : Stored) → Within s most (started s seed certificates stored).node
+within-started : (s : Setting) (most : ℕ) (nonces : ℕ → ℕ) (certificates : List Record) (stored : Stored) → Within s most (started s nonces certificates stored).node
 unfolding started signs takes lives
-within-started s most seed certificates stored =
-    let same = since-takes_all s certificates (begun (blank s seed stored)) in
-    inl (first (opened s seed certificates stored).node.since stored.epoch most same.0)
+within-started s most nonces certificates stored =
+    let same = since-takes_all s certificates (begun (blank s nonces stored)) in
+    inl (first (opened s nonces certificates stored).node.since stored.epoch most same.0)
   where
     first : (since epoch most : ℕ) → since ≡ epoch + 1 → epoch + 1 ≤ since + most
     first since epoch most is = omega (arith, is)
 
-pub epochs-bounded : (s : Setting) (heal : Heal) (seed : List ℕ) (certificates : List Record) (stored : Stored) (inputs : List Input)
-    → s.heal ≡ Some heal → 0 < heal.most → has_left s (life_of s seed certificates stored inputs) ≡ false
-    → (life_of s seed certificates stored inputs).stored.epoch ≤ (life_of s seed certificates stored inputs).since + heal.most
-epochs-bounded s heal seed certificates stored inputs is some stays =
-    by (within-calls s heal (started s seed certificates stored).node inputs is some (within-started s heal.most seed certificates stored))
+pub epochs-bounded : (s : Setting) (heal : Heal) (nonces : ℕ → ℕ) (certificates : List Record) (stored : Stored) (inputs : List Input)
+    → s.heal ≡ Some heal → 0 < heal.most → has_left s (life_of s nonces certificates stored inputs) ≡ false
+    → (life_of s nonces certificates stored inputs).stored.epoch ≤ (life_of s nonces certificates stored inputs).since + heal.most
+epochs-bounded s heal nonces certificates stored inputs is some stays =
+    by (within-calls s heal (started s nonces certificates stored).node inputs is some (within-started s heal.most nonces certificates stored))
   where
-    by : Within s heal.most (life_of s seed certificates stored inputs) → (life_of s seed certificates stored inputs).stored.epoch ≤ (life_of s seed certificates stored inputs).since + heal.most
+    by : Within s heal.most (life_of s nonces certificates stored inputs) → (life_of s nonces certificates stored inputs).stored.epoch ≤ (life_of s nonces certificates stored inputs).since + heal.most
     by (inl few) = few
     by (inr gone) = absurd (false≢true (sym stays ∙ gone))

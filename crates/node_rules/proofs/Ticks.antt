@@ -241,7 +241,7 @@ out-more s st index m ms =
 told-more : (s : Setting) (st : State) (index m : ℕ) (ms : List ℕ) → accusing_told s st index (m ∷ ms) ≡ one_told s st index m ++ accusing_told s st (next_index s index) ms
 told-more s st index m ms = elim (cases_Bool (eqb index s.indexes)) [ inl up ↦ rw up refl | inr left ↦ rw left refl ]
 
-all-sent : (s : Setting) (st : State) (c : Call) (low : ℕ) (ms : List ℕ) → Stands s st c low ms → (accuses_all s ms c).sent ≡ c.sent ++ accusations_out s st c.node.stored.next (unaccused s st ms)
+pub all-sent : (s : Setting) (st : State) (c : Call) (low : ℕ) (ms : List ℕ) → Stands s st c low ms → (accuses_all s ms c).sent ≡ c.sent ++ accusations_out s st c.node.stored.next (unaccused s st ms)
 all-sent s st c low [] h = sym (nil-right c.sent)
 all-sent s st c low (m ∷ ms) h =
     elim (cases_Bool (has_accused s st m)) [
@@ -301,7 +301,7 @@ sent-sends : (s : Setting) (d : Datagram) (c : Call) (to : ℕ) → (sends s d c
 unfolding sends
 sent-sends s d c to = refl
 
-pings-sent : (s : Setting) (pings : List (ℕ × ℕ)) (c : Call) → (pings_all s pings c).sent ≡ c.sent ++ pings_out s pings
+pub pings-sent : (s : Setting) (pings : List (ℕ × ℕ)) (c : Call) → (pings_all s pings c).sent ≡ c.sent ++ pings_out s pings
 pings-sent s [] c = sym (nil-right c.sent)
 pings-sent s (p ∷ pings) c =
     let c1 : Call = sends s (kinds.Ping s.me p.1) c p.0 in

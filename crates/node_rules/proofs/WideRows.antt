@@ -18,7 +18,7 @@ use Rattle.node_rules.specs.Calls.{Call, lives, sends, takes, signs, signs_and_s
 use Rattle.node_rules.specs.Deliveries.{handles, delivered}
 use Rattle.node_rules.specs.Starting.{started}
 use Rattle.node_rules.specs.Ticking.{due_tick, fresh, spreads, passed, probed_at, ticked}
-use Rattle.node_rules.proofs.Rows.{acc, accused, at0, certificate, given, new_store, note, own, seed, setting}
+use Rattle.node_rules.proofs.Rows.{acc, accused, at0, certificate, given, new_store, note, own, nonces, setting}
 
 -- ---- rounds and pages
 
@@ -27,7 +27,7 @@ abbrev slow : Setting
 slow = record (setting 1) { group = record (setting 1).group { period = 2 } }
 
 abbrev paged : Node
-paged = (started slow seed (certificate 1 ∷ certificate 2 ∷ certificate 40 ∷ []) new_store).node
+paged = (started slow nonces (certificate 1 ∷ certificate 2 ∷ certificate 40 ∷ []) new_store).node
 
 -- The node behind so many ticks.
 abbrev behind : ℕ → Node
@@ -80,7 +80,7 @@ abbrev all_but_one : ℕ
 all_but_one = 1610612735
 
 abbrev noted : Call
-noted = delivered wide (started wide seed (certificate 1 ∷ certificate 2 ∷ []) (record { next = 0; epoch = 0; mask = record { 0 = all } })).node (given (note 2 1 all))
+noted = delivered wide (started wide nonces (certificate 1 ∷ certificate 2 ∷ []) (record { next = 0; epoch = 0; mask = record { 0 = all } })).node (given (note 2 1 all))
 
 -- An accusation on ring 29 is answered by a note that disables that ring.
 answered : (delivered wide noted.node (given (acc 2 1 1 29))).told

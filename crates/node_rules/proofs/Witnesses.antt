@@ -513,19 +513,19 @@ joins-witnessed : (s : Setting) (base : List Record) (d : Call) (events : List E
 joins-witnessed s base d [] all = tt
 joins-witnessed s base d (e ∷ events) all = (join-witnessed s base d e all.0, joins-witnessed s base d events all.1)
 
-comes-started : (s : Setting) (own : Key) (seed : List ℕ) (certificates : List Record) (stored : Stored) → Signs s own → AllByRecursion Certifies certificates → list_any (λ r. is_certificate_for s.me r.body) certificates ≡ true
-    → AllByRecursion (IsCertifiedBy s own) certificates → stored.next < s.indexes → Comes s own (certificates ++ signed_in s (started s seed certificates stored)) (started s seed certificates stored).node
+comes-started : (s : Setting) (own : Key) (nonces : ℕ → ℕ) (certificates : List Record) (stored : Stored) → Signs s own → AllByRecursion Certifies certificates → list_any (λ r. is_certificate_for s.me r.body) certificates ≡ true
+    → AllByRecursion (IsCertifiedBy s own) certificates → stored.next < s.indexes → Comes s own (certificates ++ signed_in s (started s nonces certificates stored)) (started s nonces certificates stored).node
 unfolding started IsOwnBody
-comes-started s own seed certificates stored k all mine good left =
-    let c : Call = opened s seed certificates stored in
+comes-started s own nonces certificates stored k all mine good left =
+    let c : Call = opened s nonces certificates stored in
     let x : NoteBody = record { member = s.me; epoch = stored.epoch + 1; mask = record { 0 = first_mask s.group.t stored.mask.0 } } in
     let b : Body = Note x in
     let d : Call = signs s b c in
-    let a : KeepsAll s own d.node = all-started s own seed certificates stored all mine good k.sign left in
+    let a : KeepsAll s own d.node = all-started s own nonces certificates stored all mine good k.sign left in
     let key : public_key_of c.node s.me ≡ Some own = sym (ap (option_map (λ y. y.key)) (certificate-signs s b c s.me (note-is_none x))) ∙ a.own_key in
-    let index : c.node.stored.next < s.indexes = subst (λ (x : Stored). x.next < s.indexes) (sym (stored-opened s seed certificates stored)) left in
+    let index : c.node.stored.next < s.indexes = subst (λ (x : Stored). x.next < s.indexes) (sym (stored-opened s nonces certificates stored)) left in
     let f : Follows s c.node d.node = follows-signs s c.node b c (note-is_none x) (follows-itself s c.node) in
-    let joins = kit-joins s own certificates certificates (begun (blank s seed stored)) (λ r i. i) all good tt in
+    let joins = kit-joins s own certificates certificates (begun (blank s nonces stored)) (λ r i. i) all good tt in
     comes-call s own certificates d
     record {
       all = a;
@@ -533,11 +533,11 @@ comes-started s own seed certificates stored k all mine good left =
           (all-push (Witnessed s certificates d) c.node.lived (event_of s b) (joins-witnessed s certificates d c.node.lived joins) (own-witnessed s own certificates k b c d refl index key f (own-in s certificates b c)));
     }
 
-pub vouched-life : (s : Setting) (own : Key) (seed : List ℕ) (certificates : List Record) (stored : Stored) (inputs : List Input) → 1 ≤ s.group.t → AllByRecursion Certifies certificates
+pub vouched-life : (s : Setting) (own : Key) (nonces : ℕ → ℕ) (certificates : List Record) (stored : Stored) (inputs : List Input) → 1 ≤ s.group.t → AllByRecursion Certifies certificates
     → list_any (λ r. is_certificate_for s.me r.body) certificates ≡ true → AllByRecursion (IsCertifiedBy s own) certificates → OwnSignaturesVerify s own → stored.next < s.indexes
-    → AllByRecursion (IsVouched s (gathered s (started s seed certificates stored).node (certificates ++ signed_in s (started s seed certificates stored)) inputs) (after_calls s (started s seed certificates stored).node inputs))
-    (after_calls s (started s seed certificates stored).node inputs).lived
-vouched-life s own seed certificates stored inputs some all mine good sign left =
+    → AllByRecursion (IsVouched s (gathered s (started s nonces certificates stored).node (certificates ++ signed_in s (started s nonces certificates stored)) inputs) (after_calls s (started s nonces certificates stored).node inputs))
+    (after_calls s (started s nonces certificates stored).node inputs).lived
+vouched-life s own nonces certificates stored inputs some all mine good sign left =
     let k : Signs s own = record { some = some; sign = sign } in
-    let known : List Record = certificates ++ signed_in s (started s seed certificates stored) in
-    (comes-calls s own known k (started s seed certificates stored).node inputs (comes-started s own seed certificates stored k all mine good left)).events
+    let known : List Record = certificates ++ signed_in s (started s nonces certificates stored) in
+    (comes-calls s own known k (started s nonces certificates stored).node inputs (comes-started s own nonces certificates stored k all mine good left)).events

@@ -17,8 +17,8 @@ AddressesOthers s c = AllByRecursion (λ d. is_other s c.node d.0 ≡ true) c.se
 
 -- In every life each datagram goes to another member, whose certificate the node holds, whichever put fails.
 abbrev pub OnlyCertifiedAreAddressed : Type 0
-OnlyCertifiedAreAddressed = (s : Setting) (seed : List ℕ) (certificates : List Record) (stored : Stored) (inputs : List Input) (i : Input) (fails_at : Option ℕ)
-    → AddressesOthers s (called s (life_of s seed certificates stored inputs) i fails_at)
+OnlyCertifiedAreAddressed = (s : Setting) (nonces : ℕ → ℕ) (certificates : List Record) (stored : Stored) (inputs : List Input) (i : Input) (fails_at : Option ℕ)
+    → AddressesOthers s (called s (life_of s nonces certificates stored inputs) i fails_at)
 
 -- The node holds a certificate of the member, with a port.
 pub record HasPort (n : Node) (m : ℕ) : Type 0 where

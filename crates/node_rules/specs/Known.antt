@@ -44,9 +44,9 @@ gathered s n known [] = known
 gathered s n known (i ∷ inputs) = gathered s (call_of s n i).node (known ++ accepted_in s n i ++ signed_in s (call_of s n i)) inputs
 
 -- The kit's certificates, the first note, and what the calls have accepted and signed.
-abbrev pub known_in : Setting → List ℕ → List Record → Stored → List Input → List Record
-known_in s seed certificates stored inputs =
-    gathered s (started s seed certificates stored).node (certificates ++ signed_in s (started s seed certificates stored)) inputs
+abbrev pub known_in : Setting → (ℕ → ℕ) → List Record → Stored → List Input → List Record
+known_in s nonces certificates stored inputs =
+    gathered s (started s nonces certificates stored).node (certificates ++ signed_in s (started s nonces certificates stored)) inputs
 
 -- ---- what is sent
 
@@ -66,5 +66,5 @@ SendsKnown s known c = AllByRecursion (λ d. IsOfKnown (known ++ signed_in s c) 
 
 -- In every life each record that a call sends stands in the kit, or was accepted or signed before, whichever put fails.
 abbrev pub OnlyKnownIsSent : Type 0
-OnlyKnownIsSent = (s : Setting) (seed : List ℕ) (certificates : List Record) (stored : Stored) (inputs : List Input) (i : Input) (fails_at : Option ℕ)
-    → SendsKnown s (known_in s seed certificates stored inputs) (called s (life_of s seed certificates stored inputs) i fails_at)
+OnlyKnownIsSent = (s : Setting) (nonces : ℕ → ℕ) (certificates : List Record) (stored : Stored) (inputs : List Input) (i : Input) (fails_at : Option ℕ)
+    → SendsKnown s (known_in s nonces certificates stored inputs) (called s (life_of s nonces certificates stored inputs) i fails_at)

@@ -10,6 +10,7 @@ pub mod OnDisks
 pub mod Starting
 pub mod Lives
 pub mod Vouching
+pub mod Claims
 pub mod Accusing
 pub mod Verdicts
 pub mod Answering
@@ -17,6 +18,7 @@ pub mod Outgoing
 pub mod Known
 pub mod Stopping
 pub mod Sending
+pub mod GoingOut
 pub mod Gaining
 pub mod OnRings
 pub mod OneExchange
@@ -24,3 +26,6 @@ pub mod Addressing
 pub mod Plain
 pub mod ComingBack
 pub mod Spans
+pub mod OtherNonces
+pub mod Told
+pub mod Readable

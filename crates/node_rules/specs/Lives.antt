@@ -97,8 +97,8 @@ pub record IsKit (s : Setting) (certificates : List Record) : Type 0 where
   pub own : list_any (λ r. is_certificate_for s.me r.body) certificates ≡ true
 
 -- A life that started with these certificates and what the store keeps, and has answered these calls.
-abbrev pub life_of : Setting → List ℕ → List Record → Stored → List Input → Node
-life_of s seed certificates stored inputs = after_calls s (started s seed certificates stored).node inputs
+abbrev pub life_of : Setting → (ℕ → ℕ) → List Record → Stored → List Input → Node
+life_of s nonces certificates stored inputs = after_calls s (started s nonces certificates stored).node inputs
 
 abbrev pub EachLifeIsJustified : Type 0
 EachLifeIsJustified = (s : Setting) (n : Node) → IsJustified s.group (opening []) n.lived
@@ -116,7 +116,7 @@ abbrev pub EachCallTellsItsLife : Type 0
 EachCallTellsItsLife = (s : Setting) (n : Node) (i : Input) (fails_at : Option ℕ) → TellsItsLife s n (called s n i fails_at)
 
 abbrev pub OwnNoteIsKept : Type 0
-OwnNoteIsKept = (s : Setting) (seed : List ℕ) (certificates : List Record) (stored : Stored) (inputs : List Input) → HasRings s → IsKit s certificates → KeepsOwnNote s (life_of s seed certificates stored inputs)
+OwnNoteIsKept = (s : Setting) (nonces : ℕ → ℕ) (certificates : List Record) (stored : Stored) (inputs : List Input) → HasRings s → IsKit s certificates → KeepsOwnNote s (life_of s nonces certificates stored inputs)
 
 -- Where an accusation against the node is accepted, the note that answers it has no fault.
 abbrev pub OwnAnswersAreAccepted : Type 0

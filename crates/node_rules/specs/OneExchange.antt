@@ -31,18 +31,18 @@ use Rattle.node_rules.specs.Vouching.{OwnSignaturesVerify, IsCertifiedBy}
 
 -- ---- lives
 
--- How a node's life began: what the node was opened with, the key of its own certificate, the seed of its nonces, the
+-- How a node's life began: what the node was opened with, the key of its own certificate, the source of its nonces, the
 -- certificates of its kit, and what its store kept.
 pub record Life : Type 0 where
   pub setting : Setting
   pub own : Key
-  pub seed : List ℕ
+  pub nonces : ℕ → ℕ
   pub certificates : List Record
   pub stored : Stored
 
 -- What the node has come to when these calls have been answered.
 abbrev pub node_after : Life → List Input → Node
-node_after l inputs = life_of l.setting l.seed l.certificates l.stored inputs
+node_after l inputs = life_of l.setting l.nonces l.certificates l.stored inputs
 
 -- Every note that it has accepted by then.
 abbrev pub notes_after : Life → List Input → List NoteBody

@@ -35,5 +35,5 @@ pub record IsPlain (s : Setting) (n : Node) : Type 0 where
 
 -- In every life without the option.
 abbrev pub LivesArePlain : Type 0
-LivesArePlain = (s : Setting) (seed : List ℕ) (certificates : List Record) (stored : Stored) (inputs : List Input) → s.heal ≡ None
-    → IsPlain s (life_of s seed certificates stored inputs)
+LivesArePlain = (s : Setting) (nonces : ℕ → ℕ) (certificates : List Record) (stored : Stored) (inputs : List Input) → s.heal ≡ None
+    → IsPlain s (life_of s nonces certificates stored inputs)

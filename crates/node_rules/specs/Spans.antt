@@ -19,6 +19,6 @@ has_left s n = list_any (is_own_leaving s) n.lived
 
 -- In every life with a bound the epoch has risen in the present span by no more than that, unless the node has left.
 abbrev pub EpochsAreBounded : Type 0
-EpochsAreBounded = (s : Setting) (heal : Heal) (seed : List ℕ) (certificates : List Record) (stored : Stored) (inputs : List Input)
+EpochsAreBounded = (s : Setting) (heal : Heal) (nonces : ℕ → ℕ) (certificates : List Record) (stored : Stored) (inputs : List Input)
     → s.heal ≡ Some heal → 0 < heal.most
-    → let n = life_of s seed certificates stored inputs in has_left s n ≡ false → n.stored.epoch ≤ n.since + heal.most
+    → let n = life_of s nonces certificates stored inputs in has_left s n ≡ false → n.stored.epoch ≤ n.since + heal.most

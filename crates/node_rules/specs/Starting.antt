@@ -9,21 +9,21 @@ use Rattle.detector.specs.Silence.{opening}
 use Rattle.node_rules.specs.Replies.{first_mask}
 use Rattle.node_rules.specs.Calls.{Call, begun, takes, signs}
 
--- A node with nothing but what its store keeps and the seed of its nonces. Its first note comes before the first span.
-abbrev pub blank : Setting → List ℕ → Stored → Node
-blank s seed stored =
+-- A node with nothing but what its store keeps and the source of its nonces. Its first note comes before the first span.
+abbrev pub blank : Setting → (ℕ → ℕ) → Stored → Node
+blank s nonces stored =
     record {
       lived = [];
       held = nothing_held;
       stored = stored;
-      probes = opening s.group seed;
+      probes = opening s.group nonces;
       news = [];
       since = stored.epoch + 1;
     }
 
 -- It takes the certificates of its kit, in order.
-abbrev pub opened : Setting → List ℕ → List Record → Stored → Call
-opened s seed certificates stored = fold (λ c r. takes s r c) (begun (blank s seed stored)) certificates
+abbrev pub opened : Setting → (ℕ → ℕ) → List Record → Stored → Call
+opened s nonces certificates stored = fold (λ c r. takes s r c) (begun (blank s nonces stored)) certificates
 
 -- Its first note has the epoch after the stored one.
 abbrev pub first_note : Setting → Stored → Body
@@ -34,5 +34,5 @@ abbrev pub may_start : Setting → Stored → Bool
 may_start s stored = not (stored.next == s.indexes)
 
 -- The first note is signed and accepted. Nothing is sent.
-unfoldable pub started : Setting → List ℕ → List Record → Stored → Call
-started s seed certificates stored = signs s (first_note s stored) (opened s seed certificates stored)
+unfoldable pub started : Setting → (ℕ → ℕ) → List Record → Stored → Call
+started s nonces certificates stored = signs s (first_note s stored) (opened s nonces certificates stored)

@@ -47,14 +47,14 @@ IsCertifiedBy s own r = (s.verifies s.authority r ≡ true) × ((c : CertBody) �
 
 -- A life starts with an index left, and spends none that the key hasn't.
 abbrev pub NoIndexBeyondTheKey : Type 0
-NoIndexBeyondTheKey = (s : Setting) (seed : List ℕ) (certificates : List Record) (stored : Stored) (inputs : List Input)
-    → stored.next < s.indexes → (life_of s seed certificates stored inputs).stored.next ≤ s.indexes
+NoIndexBeyondTheKey = (s : Setting) (nonces : ℕ → ℕ) (certificates : List Record) (stored : Stored) (inputs : List Input)
+    → stored.next < s.indexes → (life_of s nonces certificates stored inputs).stored.next ≤ s.indexes
 
 -- Each event of each life is vouched for by a record that the life has come by, where it starts with an index left.
 abbrev pub LivesAreVouchedFor : Type 0
-LivesAreVouchedFor = (s : Setting) (own : Key) (seed : List ℕ) (certificates : List Record) (stored : Stored) (inputs : List Input)
+LivesAreVouchedFor = (s : Setting) (own : Key) (nonces : ℕ → ℕ) (certificates : List Record) (stored : Stored) (inputs : List Input)
     → HasRings s → IsKit s certificates → AllByRecursion (IsCertifiedBy s own) certificates → OwnSignaturesVerify s own → stored.next < s.indexes
-    → AllByRecursion (IsVouched s (known_in s seed certificates stored inputs) (life_of s seed certificates stored inputs)) (life_of s seed certificates stored inputs).lived
+    → AllByRecursion (IsVouched s (known_in s nonces certificates stored inputs) (life_of s nonces certificates stored inputs)) (life_of s nonces certificates stored inputs).lived
 
 -- ---- what is sent
 
@@ -83,8 +83,8 @@ SendsAuthentic s c = AllByRecursion (λ d. IsOfAuthentic s c.node d.1) c.sent
 
 -- In every life that starts with an index left, whichever put fails.
 abbrev pub SentRecordsVerify : Type 0
-SentRecordsVerify = (s : Setting) (own : Key) (seed : List ℕ) (certificates : List Record) (stored : Stored)
+SentRecordsVerify = (s : Setting) (own : Key) (nonces : ℕ → ℕ) (certificates : List Record) (stored : Stored)
     (inputs : List Input) (i : Input) (fails_at : Option ℕ)
     → HasRings s → IsKit s certificates → AllByRecursion (IsCertifiedBy s own) certificates → OwnSignaturesVerify s own
     → stored.next < s.indexes
-    → SendsAuthentic s (called s (life_of s seed certificates stored inputs) i fails_at)
+    → SendsAuthentic s (called s (life_of s nonces certificates stored inputs) i fails_at)

@@ -11,6 +11,9 @@ ghost use Rattle.node_rules.specs.Answering.{AnswersAreTold, RecordsAreTold, Ans
 ghost use Rattle.node_rules.specs.Outgoing.{LeavingSends, LeavingTells, TickSends, TickTells};
 ghost use Rattle.node_rules.specs.Stopping.{StoppedDeliveryEnds, StoppedVerdictsAreTold, StoppedTickEnds, StoppedLeavingEnds, OnlySignaturesStop, WholeCallsGoOn};
 ghost use Rattle.node_rules.specs.Sending.{SentIsTold, PingsBring, PongsBring, SummariesBring};
+ghost use Rattle.node_rules.specs.Told.{CallsTellNow, MomentsFit, StartsTellNow, CallsTellSendings};
+ghost use Rattle.node_rules.specs.Readable.{SentRecordsAreRead, SpelledRecordsAreRead, ToldRecordsAreRead};
+ghost use Rattle.node_rules.specs.GoingOut.{OwnAccusationsGoOut};
 ghost use Rattle.node_rules.specs.Gaining.{LeavingIsLived, RecordsAreLived, TicksAreLived};
 ghost use Rattle.node_rules.specs.OnRings.{RingForIsLowest, NeighboursAreSuccessors, AccusedAreAddressed};
 ghost use Rattle.node_rules.specs.OneExchange.{WhatIsHeldIsTheLife, WhatIsHeldCanBeSent, SummariesAreAnswered, OneExchangeIsEnough, NothingLackingIsEnough};
@@ -19,6 +22,7 @@ ghost use Rattle.node_rules.specs.Addressing.{OnlyCertifiedAreAddressed, Address
 ghost use Rattle.node_rules.specs.Plain.{LivesArePlain};
 ghost use Rattle.node_rules.specs.ComingBack.{WhoIsRemovedIsTold, WhoIsToldComesBack, NextNotesBringBack};
 ghost use Rattle.node_rules.specs.Spans.{EpochsAreBounded};
+ghost use Rattle.node_rules.specs.OtherNonces.{StartsOverlookSources, DeliveriesOverlookSources, LeavingOverlooksSources, TicksOverlookSources, TicksDrawPings, TicksDifferInNonces, OtherNoncesAreTold, ShownNoncesAreSent, PingsAreTold, PingsAreApart, PingsShowNonces, LivesGiveAll, EachHasASource, LearnedLivesBegin, LearnedLivesGoOn};
 
 /// In every life of a node each member that goes out of the view does so by an accepted note of its own that leaves, or at a
 /// tick, and then an accusation accepted earlier against it stood in each state between, for the timeout at least.
@@ -89,6 +93,11 @@ pub fn own_accusations_are_accepted()
 /// there in its own view, on a ring that the member's newest note enables, and at the epoch of that note.
 pub fn only_the_silent_are_accused()
     ensures { OnlyTheSilentAreAccused }
+{}
+
+/// Each accusation on which a call spends an index goes to the accused in that very call, with the signature of that index.
+pub fn own_accusations_go_out()
+    ensures { OwnAccusationsGoOut }
 {}
 
 /// A delivery reports one verdict on each record that was read, in order: its body and its first fault, in the node as
@@ -251,4 +260,61 @@ pub fn who_is_told_comes_back()
 /// above its epoch as the present span of one timeout began.
 pub fn epochs_are_bounded()
     ensures { EpochsAreBounded }
+{}
+
+/// Nothing but the nonces of pings comes from their source. With another source a start, a delivery and a leaving report and
+/// send the same, and so does a tick with given pings; and the node that they leave has that source, and is else the same. A
+/// tick is the one with the pings that are drawn: one to each of the watched in order where it is due, and none at another.
+pub fn sources_give_nonces_alone()
+    ensures start { StartsOverlookSources }
+    ensures delivery { DeliveriesOverlookSources }
+    ensures leaving { LeavingOverlooksSources }
+    ensures tick { TicksOverlookSources }
+    ensures drawn { TicksDrawPings }
+{}
+
+/// Of a tick with these pings and one with others to the same members, each report is the same, or one of a ping each to
+/// the same member: the other reports the same with its own nonces. The nodes behind them are the same, but that each has its
+/// pings as the last. And reports that are so alike to a tick's are those of a tick with pings to the same members.
+pub fn ticks_differ_in_nonces()
+    ensures alike { TicksDifferInNonces }
+    ensures told { OtherNoncesAreTold }
+    ensures shown { ShownNoncesAreSent }
+{}
+
+/// Among the reports of a due tick those of pings are of the pings that it sends, in order, and any other tick reports none. The
+/// bytes of a ping are those of no other datagram, and show its nonce.
+pub fn pings_are_told()
+    ensures each { PingsAreTold }
+    ensures apart { PingsAreApart }
+    ensures nonce { PingsShowNonces }
+{}
+
+/// A node with whatever source follows a life with another, where it puts the pings that it learns in the place of those that it
+/// drew: each source that gives all of these their nonces brings the life to the node, but for the source, and the calls of
+/// that life are those of the node. There is such a source, and that of a life gives its own pings theirs.
+pub fn nonces_may_be_learned()
+    ensures begins { LearnedLivesBegin }
+    ensures goes_on { LearnedLivesGoOn }
+    ensures one { EachHasASource }
+    ensures own { LivesGiveAll }
+{}
+
+/// Each event of a whole call has the node's moment as the call began, and at a tick the next one; so it fits in 64 bits where
+/// the call began before the last. None says that a datagram was lost or handed over, or that the disk failed. What is reported
+/// as sent is numbered from 0 on. A start is at the moment 0, and sends nothing.
+pub fn calls_tell_now()
+    ensures calls { CallsTellNow }
+    ensures fit { MomentsFit }
+    ensures numbered { CallsTellSendings }
+    ensures starts { StartsTellNow }
+{}
+
+/// The records in each datagram that a correct node sends in a whole call, and reports as sent, are read as it sent them, where what it began with is
+/// within its ranges and what it was handed is bytes. So are those of any life whose own signatures have the length of one,
+/// whatever they verify.
+pub fn sent_records_are_read()
+    ensures sent { SentRecordsAreRead }
+    ensures told { ToldRecordsAreRead }
+    ensures spelled { SpelledRecordsAreRead }
 {}

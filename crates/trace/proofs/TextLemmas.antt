@@ -91,6 +91,14 @@ clear-hex (b ∷ bytes) =
     let digit : (k : ℕ) → not (eqb (get_or lower_digits k 0) 10) ≡ true = λ k. get-all (λ b. not (eqb b 10)) lower_digits k refl refl in
     and_from _ _ (digit (b / 16)) (and_from _ _ (digit (b % 16)) (clear-hex bytes))
 
+-- nor a space
+pub unspaced-hex : (bytes : List ℕ) → list_all (λ b. not (eqb b 32)) (encode_lower bytes) ≡ true
+unfolding encode_with
+unspaced-hex [] = refl
+unspaced-hex (b ∷ bytes) =
+    let digit : (k : ℕ) → not (eqb (get_or lower_digits k 0) 32) ≡ true = λ k. get-all (λ b. not (eqb b 32)) lower_digits k refl refl in
+    and_from _ _ (digit (b / 16)) (and_from _ _ (digit (b % 16)) (unspaced-hex bytes))
+
 -- ## The first place of a byte
 
 -- two texts that agree, and have the byte first at the same place

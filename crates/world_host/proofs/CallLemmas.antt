@@ -171,7 +171,7 @@ left-in s tag e m v (Some life) left law g h is =
     let t : rules.Setting = g.life.setting in
     let n : Node = node_after g.life g.inputs in
     let note : NoteBody = stored_note t n.stored in
-    let own = law t g.life.seed g.life.certificates g.life.stored g.inputs g.correct.rings g.correct.kit in
+    let own = law t g.life.nonces g.life.certificates g.life.stored g.inputs g.correct.rings g.correct.kit in
     let mine : t.me ≡ v.me = ap (λ (x : rules.Setting). x.me) g.is.setting in
     let kept : get v.membership.notes v.me ≡ Some note = ap (get v.membership.notes) (sym mine) ∙ sym (g.is.holds.at_number t.me).newest_note ∙ own.own in
     let member : m ≡ v.me = ap (λ (x : rules.Setting). x.me) h.is.setting in
@@ -234,7 +234,7 @@ going-on l inputs i v old new (Ok done) correct gives over =
       life = l;
       inputs = inputs ++ i ∷ [];
       correct = correct;
-      is = subst (IsNode l.setting v) (sym (after-one l.setting (started l.setting l.seed l.certificates l.stored).node inputs i)) gives.is;
+      is = subst (IsNode l.setting v) (sym (after-one l.setting (started l.setting l.nonces l.certificates l.stored).node inputs i)) gives.is;
       going = over;
     }
 going-on l inputs i v old new (Err fault) correct gives over = tt

@@ -128,9 +128,9 @@ not-false true is = sym is
 not-false false is = refl
 
 pub start_as_told : StartsAsTold
-start_as_told tag seed certificates s d e few small h may =
+start_as_told tag nonces certificates s d e few small h may =
     let body : Body = first_note s e.state in
-    let one = one-started s seed certificates e.state in
+    let one = one-started s nonces certificates e.state in
     let signs : MaySign s e.state body = record { follows = refl; left = not-false _ may; rings = inr (first-rings s.group.t e.state.mask.0) } in
     let P : Stored → Type 0 = λ kept. ComesAs tag s.indexes (runs (put_calls (seat_of tag e) kept) d) (put_passes e) (after_put kept e) (stopped_in_put kept e) in
     subst P (sym one.stored) (put-next tag s body d e few small h signs)

@@ -16,6 +16,7 @@ use Rattle.secrets.specs.Secrets.{nonce_seed, world_secret}
 use Rattle.signer.specs.Lives.{Spent}
 use Rattle.signer.specs.Signing.{SignerState, next_note, stored_after}
 use Rattle.journal.specs.declared.event.Event as journal
+use Rattle.detector.specs.Silence.{nonce}
 use Rattle.node_rules.specs.Calls.{Call}
 use Rattle.node_rules.specs.Replies.{first_mask}
 use Rattle.records.specs.declared.keys.Key.{Key}
@@ -47,7 +48,7 @@ use Rattle.world_host.proofs.WorldLemmas.{few-indexes, few-rings, group-is}
 some-same : {T : Type 0} (x y : T) → Some x ≡ Some y → x ≡ y
 some-same x y is = cc
 
-pub nonces-are : (s : Setting) (g : Group) (kinds : Kinds) (m first : ℕ) → IsWorld s g kinds → s.nonces m first ≡ nonce_seed (world_secret g.tag m) first
+pub nonces-are : (s : Setting) (g : Group) (kinds : Kinds) (m first : ℕ) → IsWorld s g kinds → s.nonces m first ≡ nonce (nonce_seed (world_secret g.tag m) first)
 unfolding setting_for
 nonces-are s g kinds m first w = ap (λ (x : Setting). x.nonces m first) w.made
 
@@ -70,17 +71,17 @@ calls-are : (s : Setting) (g : Group) (kinds : Kinds) (m : ℕ) (seat : Seat) (t
 calls-are s g kinds m seat tag e d came w at so =
     ap (λ (k : Stored). runs (put_calls (seat_of tag e) k) d) (sym (kept-is s g kinds m e.state w)) ∙ ap (λ (place : Seat). runs (put_calls place (kept_first g.t m e.state)) d) (sym at) ∙ sym (some-same _ _ so)
 
-started-so : (s : Setting) (m : ℕ) (seed : List ℕ) (records : List Record) (stored : Stored) (v : Kept) (after : List journal.Event) → seed ≡ s.nonces m stored.next → records ≡ certificates s
-    → Starts (setting_of s m) seed records stored v [] after → Starts (setting_of s m) (s.nonces m stored.next) (certificates s) stored v [] after
-started-so s m seed records stored v after seeded certified starts =
-    subst (λ (rs : List Record). Starts (setting_of s m) (s.nonces m stored.next) rs stored v [] after) certified (subst (λ (x : List ℕ). Starts (setting_of s m) x records stored v [] after) seeded starts)
+started-so : (s : Setting) (m : ℕ) (nonces : ℕ → ℕ) (records : List Record) (stored : Stored) (v : Kept) (after : List journal.Event) → nonces ≡ s.nonces m stored.next → records ≡ certificates s
+    → Starts (setting_of s m) nonces records stored v [] after → Starts (setting_of s m) (s.nonces m stored.next) (certificates s) stored v [] after
+started-so s m nonces records stored v after seeded certified starts =
+    subst (λ (rs : List Record). Starts (setting_of s m) (s.nonces m stored.next) rs stored v [] after) certified (subst (λ (x : ℕ → ℕ). Starts (setting_of s m) x records stored v [] after) seeded starts)
 
-pub begins-so : (s : Setting) (g : Group) (kinds : Kinds) (m : ℕ) (seat : Seat) (tag seed : List ℕ) (records : List Record) (e : Disk) (d r : DiskState) (v : Kept) (after : List journal.Event) → IsWorld s g kinds
-    → HoldsDisk tag s.indexes d e → seed ≡ s.nonces m e.state.next → records ≡ certificates s → seat ≡ seat_of tag e → Starts (setting_of s m) seed records e.state v [] after → e.state.next < s.indexes
+pub begins-so : (s : Setting) (g : Group) (kinds : Kinds) (m : ℕ) (seat : Seat) (tag : List ℕ) (nonces : ℕ → ℕ) (records : List Record) (e : Disk) (d r : DiskState) (v : Kept) (after : List journal.Event) → IsWorld s g kinds
+    → HoldsDisk tag s.indexes d e → nonces ≡ s.nonces m e.state.next → records ≡ certificates s → seat ≡ seat_of tag e → Starts (setting_of s m) nonces records e.state v [] after → e.state.next < s.indexes
     → Some (record { disk = r; failed = false }) ≡ Some (runs (put_calls seat (kept_first g.t m e.state)) d) → v.ended ≡ false → v.signer.closed ≡ false → v.signer.seat ≡ next_seat seat (kept_first g.t m e.state) → Begins s tag m e r after v
-begins-so s g kinds m seat tag seed records e d r v after w h seeded certified at starts left came going free behind =
+begins-so s g kinds m seat tag nonces records e d r v after w h seeded certified at starts left came going free behind =
     let kept : Stored = (first_call s m e.state).node.stored in
-    let now = started-so s m seed records e.state v after seeded certified starts in
+    let now = started-so s m nonces records e.state v after seeded certified starts in
     let came_so = comes_passed tag s.indexes _ r (put_passes e) (after_put kept e) (stopped_in_put kept e) (calls-are s g kinds m seat tag e d (record { disk = r; failed = false }) w at came) (put-first s g kinds m tag e d w h left) in
     record {
       left = test-left e.state.next s.indexes left;
@@ -104,13 +105,13 @@ ComesTo s tag m e d events (Ok v) = Begins s tag m e d events v
 ComesTo s tag m e d events (Err faults.StoreFault) = FailsToBegin s tag m e d
 ComesTo s tag m e d events (Err other) = Unit {0}
 
-pub begins-by : (s : Setting) (g other : Group) (kinds : Kinds) (m me : ℕ) (tag seed : List ℕ) (own : Key) (records : List Record) (e : Disk) (d r : DiskState) (signer : SignerState) (x : node.Setting) (before after : List journal.Event) (result : Result Kept NodeFault)
-    → IsWorld s g kinds → HoldsDisk tag s.indexes d e → seed ≡ s.nonces m e.state.next → records ≡ certificates s → before ≡ [] → other ≡ g → me ≡ m → signer.state ≡ e.state → signer.seat ≡ seat_of tag e → index_count signer.key ≡ s.indexes → setting_of s m ≡ x
-    → IfOk result (λ v. (t : node.Setting) → t ≡ x → Starts t seed records signer.state v before after) → IfOk result (λ v. (t : node.Setting) → t ≡ x → IsVouchable t own records signer.state) → IfOk result (λ v. v.ended ≡ false) → IfOk result (λ v. v.signer.closed ≡ false)
+pub begins-by : (s : Setting) (g other : Group) (kinds : Kinds) (m me : ℕ) (tag : List ℕ) (nonces : ℕ → ℕ) (own : Key) (records : List Record) (e : Disk) (d r : DiskState) (signer : SignerState) (x : node.Setting) (before after : List journal.Event) (result : Result Kept NodeFault)
+    → IsWorld s g kinds → HoldsDisk tag s.indexes d e → nonces ≡ s.nonces m e.state.next → records ≡ certificates s → before ≡ [] → other ≡ g → me ≡ m → signer.state ≡ e.state → signer.seat ≡ seat_of tag e → index_count signer.key ≡ s.indexes → setting_of s m ≡ x
+    → IfOk result (λ v. (t : node.Setting) → t ≡ x → Starts t nonces records signer.state v before after) → IfOk result (λ v. (t : node.Setting) → t ≡ x → IsVouchable t own records signer.state) → IfOk result (λ v. v.ended ≡ false) → IfOk result (λ v. v.signer.closed ≡ false)
     → IfOk result (λ v. v.signer.seat ≡ next_seat signer.seat (kept_first other.t me signer.state)) → IfErr result (λ fault. MayRefuse signer fault) → PutsFirst (kept_first other.t me signer.state) signer.seat (Some d) (Some r) result → ComesTo s tag m e r after result
-begins-by s g other kinds m me tag seed own records e d r signer x before after (Ok v) w h seeded certified none group_is me_is state seat leaves is starts vouched going free behind cause puts =
-    let started : Starts (setting_of s m) seed records e.state v [] after =
-    subst (λ (es : List journal.Event). Starts (setting_of s m) seed records e.state v es after) none (subst (λ (k : Stored). Starts (setting_of s m) seed records k v before after) state (starts (setting_of s m) is)) in
+begins-by s g other kinds m me tag nonces own records e d r signer x before after (Ok v) w h seeded certified none group_is me_is state seat leaves is starts vouched going free behind cause puts =
+    let started : Starts (setting_of s m) nonces records e.state v [] after =
+    subst (λ (es : List journal.Event). Starts (setting_of s m) nonces records e.state v es after) none (subst (λ (k : Stored). Starts (setting_of s m) nonces records k v before after) state (starts (setting_of s m) is)) in
     let left : e.state.next < s.indexes = subst (λ (k : Stored). k.next < s.indexes) state (vouched (setting_of s m) is).left in
     let came : Some (record { disk = r; failed = false }) ≡ Some (runs (put_calls signer.seat (kept_first g.t m e.state)) d) =
     puts ∙ ap (λ (y : Group). Some (runs (put_calls signer.seat (kept_first y.t me signer.state)) d)) group_is ∙ ap (λ (y : ℕ). Some (runs (put_calls signer.seat (kept_first g.t y signer.state)) d)) me_is
@@ -118,16 +119,16 @@ begins-by s g other kinds m me tag seed own records e d r signer x before after 
     let place : v.signer.seat ≡ next_seat signer.seat (kept_first g.t m e.state) =
     behind ∙ ap (λ (y : Group). next_seat signer.seat (kept_first y.t me signer.state)) group_is ∙ ap (λ (y : ℕ). next_seat signer.seat (kept_first g.t y signer.state)) me_is
     ∙ ap (λ (y : Stored). next_seat signer.seat (kept_first g.t m y)) state in
-    begins-so s g kinds m signer.seat tag seed records e d r v after w h seeded certified seat started left came going free place
-begins-by s g other kinds m me tag seed own records e d r signer x before after (Err faults.StoreFault) w h seeded certified none group_is me_is state seat leaves is starts vouched going free behind cause puts =
+    begins-so s g kinds m signer.seat tag nonces records e d r v after w h seeded certified seat started left came going free place
+begins-by s g other kinds m me tag nonces own records e d r signer x before after (Err faults.StoreFault) w h seeded certified none group_is me_is state seat leaves is starts vouched going free behind cause puts =
     let left : e.state.next < s.indexes = subst (λ (n : ℕ). e.state.next < n) leaves (subst (λ (k : Stored). k.next < index_count signer.key) state cause) in
     let came : Some (record { disk = r; failed = true }) ≡ Some (runs (put_calls signer.seat (kept_first g.t m e.state)) d) =
     puts ∙ ap (λ (y : Group). Some (runs (put_calls signer.seat (kept_first y.t me signer.state)) d)) group_is ∙ ap (λ (y : ℕ). Some (runs (put_calls signer.seat (kept_first g.t y signer.state)) d)) me_is
     ∙ ap (λ (y : Stored). Some (runs (put_calls signer.seat (kept_first g.t m y)) d)) state in
     fails-so s g kinds m signer.seat tag e d r w h seat left came
-begins-by s g other kinds m me tag seed own records e d r signer x before after (Err faults.OutOfMemory) w h seeded certified none group_is me_is state seat leaves is starts vouched going free behind cause puts = tt
-begins-by s g other kinds m me tag seed own records e d r signer x before after (Err (faults.Exhausted next)) w h seeded certified none group_is me_is state seat leaves is starts vouched going free behind cause puts = tt
-begins-by s g other kinds m me tag seed own records e d r signer x before after (Err faults.Ended) w h seeded certified none group_is me_is state seat leaves is starts vouched going free behind cause puts = tt
+begins-by s g other kinds m me tag nonces own records e d r signer x before after (Err faults.OutOfMemory) w h seeded certified none group_is me_is state seat leaves is starts vouched going free behind cause puts = tt
+begins-by s g other kinds m me tag nonces own records e d r signer x before after (Err (faults.Exhausted next)) w h seeded certified none group_is me_is state seat leaves is starts vouched going free behind cause puts = tt
+begins-by s g other kinds m me tag nonces own records e d r signer x before after (Err faults.Ended) w h seeded certified none group_is me_is state seat leaves is starts vouched going free behind cause puts = tt
 
 -- What is answered then.
 pub answer-is : (s : Setting) (tag : List ℕ) (m : ℕ) (e : Disk) (d : DiskState) (events : List journal.Event) (started : Result Kept NodeFault) (answer : Result (Option Kept) NoMemory) → ComesTo s tag m e d events started → IsStart started answer → BeginsNode s tag m e d events answer
@@ -139,23 +140,23 @@ answer-is s tag m e d events (Err (faults.Exhausted next)) answer h is = absurd 
 answer-is s tag m e d events (Err faults.Ended) answer h is = absurd is
 
 -- What starts is going.
-pub start-going : (x : node.Setting) (own : Key) (seed : List ℕ) (records : List Record) (stored : Stored) (before after : List journal.Event) (came : Result Kept NodeFault) (answer : Result (Option Kept) NoMemory)
-    → IfOk came (λ v. (t : node.Setting) → t ≡ x → Starts t seed records stored v before after) → IfOk came (λ v. (t : node.Setting) → t ≡ x → IsVouchable t own records stored)
+pub start-going : (x : node.Setting) (own : Key) (nonces : ℕ → ℕ) (records : List Record) (stored : Stored) (before after : List journal.Event) (came : Result Kept NodeFault) (answer : Result (Option Kept) NoMemory)
+    → IfOk came (λ v. (t : node.Setting) → t ≡ x → Starts t nonces records stored v before after) → IfOk came (λ v. (t : node.Setting) → t ≡ x → IsVouchable t own records stored)
     → IfOk came (λ v. v.ended ≡ false) → IsStart came answer → IfOk answer (λ o. IfSome o IsGoing)
-start-going x own seed records stored before after (Ok v) answer starts vouched going is =
+start-going x own nonces records stored before after (Ok v) answer starts vouched going is =
     let w = vouched x refl in
     subst (λ (a : Result (Option Kept) NoMemory). IfOk a (λ o. IfSome o IsGoing)) (sym is) (record {
-      life = record { setting = x; own = own; seed = seed; certificates = records; stored = stored };
+      life = record { setting = x; own = own; nonces = nonces; certificates = records; stored = stored };
       inputs = [];
       correct = record { rings = w.rings; kit = w.kit; certified = w.certified; signs = w.signatures; left = w.left };
       is = (starts x refl).is;
       going = going;
     })
-start-going x own seed records stored before after (Err faults.StoreFault) answer starts vouched going is = subst (λ (a : Result (Option Kept) NoMemory). IfOk a (λ o. IfSome o IsGoing)) (sym is) tt
-start-going x own seed records stored before after (Err faults.OutOfMemory) (Ok o) starts vouched going is = cc
-start-going x own seed records stored before after (Err faults.OutOfMemory) (Err refused) starts vouched going is = tt
-start-going x own seed records stored before after (Err (faults.Exhausted next)) answer starts vouched going is = absurd is
-start-going x own seed records stored before after (Err faults.Ended) answer starts vouched going is = absurd is
+start-going x own nonces records stored before after (Err faults.StoreFault) answer starts vouched going is = subst (λ (a : Result (Option Kept) NoMemory). IfOk a (λ o. IfSome o IsGoing)) (sym is) tt
+start-going x own nonces records stored before after (Err faults.OutOfMemory) (Ok o) starts vouched going is = cc
+start-going x own nonces records stored before after (Err faults.OutOfMemory) (Err refused) starts vouched going is = tt
+start-going x own nonces records stored before after (Err (faults.Exhausted next)) answer starts vouched going is = absurd is
+start-going x own nonces records stored before after (Err faults.Ended) answer starts vouched going is = absurd is
 
 -- A key with an index left isn't used up.
 pub of-start : (s : SignerState) (fault : NodeFault) → s.state.next < index_count s.key → MayRefuse s fault → MayStop fault

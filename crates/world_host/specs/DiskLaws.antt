@@ -75,6 +75,6 @@ CallsAsTold = (tag : List ℕ) (s : Setting) (n : Node) (i : Input) (d : PlacedS
 
 -- The calls that put what the store is to keep behind the first note of a life.
 abbrev pub StartsAsTold : Type 0
-StartsAsTold = (tag seed : List ℕ) (certificates : List Record) (s : Setting) (d : DiskState) (e : Disk) → s.group.t ≤ MAX_TOLERANCE → s.indexes ≤ 32768 → HoldsDisk tag s.indexes d e → may_start s e.state ≡ true
-    → let kept = (started s seed certificates e.state).node.stored in
+StartsAsTold = (tag : List ℕ) (nonces : ℕ → ℕ) (certificates : List Record) (s : Setting) (d : DiskState) (e : Disk) → s.group.t ≤ MAX_TOLERANCE → s.indexes ≤ 32768 → HoldsDisk tag s.indexes d e → may_start s e.state ≡ true
+    → let kept = (started s nonces certificates e.state).node.stored in
     ComesAs tag s.indexes (runs (put_calls (seat_of tag e) kept) d) (put_passes e) (after_put kept e) (stopped_in_put kept e)

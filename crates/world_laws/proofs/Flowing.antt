@@ -97,9 +97,9 @@ none-opened : (s : node.Setting) (records : List Record) (c : Call) → NoneGot 
 none-opened s [] c h = h
 none-opened s (r ∷ records) c h = none-opened s records (takes s r c) (that-takes is_got s r c got-over ∙ h)
 
-none-started : (s : node.Setting) (seed : List ℕ) (records : List Record) (kept : Stored) → NoneGot (started s seed records kept)
+none-started : (s : node.Setting) (nonces : ℕ → ℕ) (records : List Record) (kept : Stored) → NoneGot (started s nonces records kept)
 unfolding started
-none-started s seed records kept = none-signs s (first_note s kept) (opened s seed records kept) (none-opened s records (call_begun (blank s seed kept)) refl)
+none-started s nonces records kept = none-signs s (first_note s kept) (opened s nonces records kept) (none-opened s records (call_begun (blank s nonces kept)) refl)
 
 ungot : (m before : ℕ) (what : whats.What) → is_got what ≡ false → got_in m (numbered_from before what) ≡ None
 ungot m before (happened.Got number) h = absurd (false≢true (sym h))

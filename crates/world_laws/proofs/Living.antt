@@ -171,10 +171,10 @@ says-opened : (s : node.Setting) (base : List Event) (records : List Record) (c 
 says-opened s base [] c all h = h
 says-opened s base (r ∷ records) c all h = says-opened s base records (takes s r c) all.1 (says-kept s base r c (certificate-silent s r.body all.0) h)
 
-pub says-started : (s : node.Setting) (seed : List ℕ) (records : List Record) (kept : Stored) → AreCertificates records → Says [] (started s seed records kept)
+pub says-started : (s : node.Setting) (nonces : ℕ → ℕ) (records : List Record) (kept : Stored) → AreCertificates records → Says [] (started s nonces records kept)
 unfolding started
-says-started s seed records kept all =
-    says-signs s [] (first_note s kept) (opened s seed records kept) (says-opened s [] records (begun (blank s seed kept)) all (record { more = []; lived = refl; same = refl }))
+says-started s nonces records kept all =
+    says-signs s [] (first_note s kept) (opened s nonces records kept) (says-opened s [] records (begun (blank s nonces kept)) all (record { more = []; lived = refl; same = refl }))
 
 -- ---- what was reported of a node
 

@@ -146,14 +146,14 @@ roster-takes_all s own index k (m ∷ ms) c =
     inner : (x y : CertBody) → Certificate x ≡ Certificate y → x ≡ y
     inner x y e = cc
 
-roster-opened : (s : Setting) (own : node.Setting) (seed : List ℕ) (kept : Stored) → KeepsRoster s (opened own seed (certificates s) kept).node
+roster-opened : (s : Setting) (own : node.Setting) (nonces : ℕ → ℕ) (kept : Stored) → KeepsRoster s (opened own nonces (certificates s) kept).node
 unfolding by_authority certificate_of
-roster-opened s own seed kept = λ k. roster-takes_all s own 0 k (members s) (begun (blank own seed kept))
+roster-opened s own nonces kept = λ k. roster-takes_all s own 0 k (members s) (begun (blank own nonces kept))
 
-pub roster-started : (s : Setting) (own : node.Setting) (seed : List ℕ) (kept : Stored) → KeepsRoster s (started own seed (certificates s) kept).node
+pub roster-started : (s : Setting) (own : node.Setting) (nonces : ℕ → ℕ) (kept : Stored) → KeepsRoster s (started own nonces (certificates s) kept).node
 unfolding started
-roster-started s own seed kept =
-    λ k. certificate-signs own (first_note own kept) (opened own seed (certificates s) kept) k (λ x e. note-is_none x e) ∙ roster-opened s own seed kept k
+roster-started s own nonces kept =
+    λ k. certificate-signs own (first_note own kept) (opened own nonces (certificates s) kept) k (λ x e. note-is_none x e) ∙ roster-opened s own nonces kept k
   where
     note-is_none : (x : CertBody) → first_note own kept ≡ Certificate x → ⊥
     note-is_none x e = cc

@@ -162,16 +162,16 @@ nothing-opened s (r ∷ records) c h = nothing-opened s records (takes s r c) (n
 nothing-sendings : (c : Call) → SendsNothing c → TellsSendings c
 nothing-sendings c h = ap (map (λ (e : journal.Event). e.what)) h.told ∙ sym (ap (sendings 0) h.sent)
 
-nothing-started : (s : node.Setting) (seed : List ℕ) (records : List Record) (kept : Stored) → SendsNothing (started s seed records kept)
+nothing-started : (s : node.Setting) (nonces : ℕ → ℕ) (records : List Record) (kept : Stored) → SendsNothing (started s nonces records kept)
 unfolding started
-nothing-started s seed records kept =
-    nothing-signs s (first_note s kept) (opened s seed records kept) (nothing-opened s records (begun (blank s seed kept)) (record { told = refl; sent = refl }))
+nothing-started s nonces records kept =
+    nothing-signs s (first_note s kept) (opened s nonces records kept) (nothing-opened s records (begun (blank s nonces kept)) (record { told = refl; sent = refl }))
 
-pub started-sent : (s : node.Setting) (seed : List ℕ) (records : List Record) (kept : Stored) → (started s seed records kept).sent ≡ []
-started-sent s seed records kept = (nothing-started s seed records kept).sent
+pub started-sent : (s : node.Setting) (nonces : ℕ → ℕ) (records : List Record) (kept : Stored) → (started s nonces records kept).sent ≡ []
+started-sent s nonces records kept = (nothing-started s nonces records kept).sent
 
-started-sendings : (s : node.Setting) (seed : List ℕ) (records : List Record) (kept : Stored) → TellsSendings (started s seed records kept)
-started-sendings s seed records kept = nothing-sendings (started s seed records kept) (nothing-started s seed records kept)
+started-sendings : (s : node.Setting) (nonces : ℕ → ℕ) (records : List Record) (kept : Stored) → TellsSendings (started s nonces records kept)
+started-sendings s nonces records kept = nothing-sendings (started s nonces records kept) (nothing-started s nonces records kept)
 
 sending-kept : (s : Setting) → Keeps s IsSentAsTold
 sending-kept s =

@@ -151,10 +151,10 @@ nothing-takes_all : (s : node.Setting) (records : List Record) (c : Call) → Sp
 nothing-takes_all s [] c = nothing-same s c
 nothing-takes_all s (r ∷ records) c = nothing-then s c (takes s r c) _ (nothing-takes s r c) (nothing-takes_all s records (takes s r c))
 
-pub one-started : (s : node.Setting) (seed : List ℕ) (records : List Record) (kept : Stored) → SpendsOne s (begun (blank s seed kept)) (started s seed records kept) (first_note s kept)
+pub one-started : (s : node.Setting) (nonces : ℕ → ℕ) (records : List Record) (kept : Stored) → SpendsOne s (begun (blank s nonces kept)) (started s nonces records kept) (first_note s kept)
 unfolding started
-one-started s seed records kept =
-    one-behind s (begun (blank s seed kept)) (opened s seed records kept) _ (first_note s kept) (nothing-takes_all s records (begun (blank s seed kept))) (one-signs s (first_note s kept) (opened s seed records kept))
+one-started s nonces records kept =
+    one-behind s (begun (blank s nonces kept)) (opened s nonces records kept) _ (first_note s kept) (nothing-takes_all s records (begun (blank s nonces kept))) (one-signs s (first_note s kept) (opened s nonces records kept))
 
 -- ---- a node's place in the world
 

@@ -23,6 +23,7 @@ use Rattle.records.specs.Spelling.{note_bytes, accusation_bytes, certificate_byt
 use Rattle.records.specs.Grammar.{key_at, certificate_at, note_at, accusation_at, body_at, signature_at, record_at}
 use Rattle.datagram.specs.Spelling.{head_bytes, records_bytes, datagram_bytes}
 use Rattle.datagram.specs.Grammar.{head_at, counted_at, records_at, content_at, datagram_at, items_at, whole_of, read_of}
+use Rattle.detector.specs.Silence.{nonce}
 use Rattle.node_rules.specs.Nodes.{state_of, certificate_of, neighbours, neighbours_and}
 use Rattle.rebuttal.specs.Rebuttals.{answering_mask}
 use Rattle.node_rules.specs.Refusals.{refusal}
@@ -81,7 +82,7 @@ setting indexes correct liars =
       verifies = verifies;
       key = key_of;
       signature = signature_by;
-      nonces = λ m first. replicate 32 m;
+      nonces = λ m first. nonce (replicate 32 m);
     }
 
 abbrev pub note : ℕ → ℕ → ℕ → Body

@@ -110,9 +110,9 @@ all-takes_all : (s : node.Setting) (records : List Record) (c : Call) → TellsA
 all-takes_all s [] c h = h
 all-takes_all s (r ∷ records) c h = all-takes_all s records (takes s r c) (all-takes s r c h)
 
-pub started-tells : (s : node.Setting) (seed : List ℕ) (records : List Record) (kept : Stored) → TellsAll s (started s seed records kept)
+pub started-tells : (s : node.Setting) (nonces : ℕ → ℕ) (records : List Record) (kept : Stored) → TellsAll s (started s nonces records kept)
 unfolding started
-started-tells s seed records kept = all-signs s (first_note s kept) (opened s seed records kept) (all-takes_all s records (begun (blank s seed kept)) refl)
+started-tells s nonces records kept = all-signs s (first_note s kept) (opened s nonces records kept) (all-takes_all s records (begun (blank s nonces kept)) refl)
 
 -- ---- what was reported of a node
 

@@ -11,6 +11,7 @@ use Rattle.ring_order.specs.Hashed.{hashed_places}
 use Rattle.secrets.specs.Secrets.{key_from, nonce_seed, world_secret}
 use Rattle.sign_keys.specs.declared.kinds.Kinds.{Kinds}
 use Rattle.sign_keys.specs.Keys.{KeySecret, public_key, signature_of}
+use Rattle.detector.specs.Silence.{nonce}
 use Rattle.world_rules.specs.Settings.{Owner, Setting}
 
 -- The authority's secret is that of a number which no member has.
@@ -52,5 +53,5 @@ setting_for g kinds heal correct liars =
       verifies = λ public r. is_ok (verdict_of public (signed_bytes g.tag g.t r.body) r.signature);
       key = λ who. public_key (owner_key g kinds who);
       signature = λ who index body. signature_of (owner_key g kinds who) index (signed_bytes g.tag g.t body);
-      nonces = λ m first. nonce_seed (owner_secret g (Some m)) first;
+      nonces = λ m first. nonce (nonce_seed (owner_secret g (Some m)) first);
     }

@@ -19,7 +19,7 @@ Owner = Option ℕ
 -- What a world is opened with: the group, whether nodes of it that lost each other are to come together again, how many
 -- indexes the key of each member has, and how many the authority's, which members are correct and which lie. What hashes
 -- and signatures are is no rule of a world: the places of a member on the rings, whether a record's signature verifies under
--- a key, the public half of an owner's key, the signature with it of an index over a body, and the seed of the nonces of a
+-- a key, the public half of an owner's key, the signature with it of an index over a body, and the nonces of a
 -- member's life, by the next index that its store keeps as the life begins.
 pub record Setting : Type 0 where
   pub group : Group
@@ -32,7 +32,7 @@ pub record Setting : Type 0 where
   pub verifies : Key → Record → Bool
   pub key : Owner → Key
   pub signature : Owner → ℕ → Body → List ℕ
-  pub nonces : ℕ → ℕ → List ℕ
+  pub nonces : ℕ → ℕ → ℕ → ℕ
 
 -- How many indexes the owner's key has.
 abbrev pub indexes_for : Setting → Owner → ℕ

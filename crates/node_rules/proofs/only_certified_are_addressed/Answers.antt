@@ -5,9 +5,9 @@ use Rattle.node_rules.proofs.Called.{holds-called}
 use Rattle.node_rules.proofs.only_certified_are_addressed.Goals as goal
 
 pub returns-clause-others : goal.returns-clause-others
-returns-clause-others c = λ s seed certificates stored inputs.
-    holds-called s (life_of s seed certificates stored inputs) (λ i call. AddressesOthers s call) (call-addresses s seed certificates stored inputs)
-    (λ bytes. delivered_until-addresses s seed certificates stored inputs) (ticked_until-addresses s seed certificates stored inputs) (left_until-addresses s seed certificates stored inputs)
+returns-clause-others c = λ s nonces certificates stored inputs.
+    holds-called s (life_of s nonces certificates stored inputs) (λ i call. AddressesOthers s call) (call-addresses s nonces certificates stored inputs)
+    (λ bytes. delivered_until-addresses s nonces certificates stored inputs) (ticked_until-addresses s nonces certificates stored inputs) (left_until-addresses s nonces certificates stored inputs)
 
 pub returns-clause-ports : goal.returns-clause-ports
 returns-clause-ports c = addressees-ports

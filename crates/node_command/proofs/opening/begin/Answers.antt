@@ -3,6 +3,7 @@ use Rattle.secrets.specs.Secrets.{nonce_seed}
 use Rattle.sign_keys.specs.Keys.{index_count}
 use Rattle.epoch_store.specs.Calls.{StoreState}
 use Rattle.epoch_store.specs.declared.Stored.{Stored}
+use Rattle.detector.specs.Silence.{nonce}
 use Rattle.node_core.specs.Playing.{Kept}
 use Rattle.node_command.specs.Members.{key_of, tag_of}
 use Rattle.node_command.proofs.OpenLemmas.{file-read, file-started, opened, used-up, of-opening, of-start, signer_of, started-from, not-started-from}
@@ -49,11 +50,11 @@ returns-in-Ok-start g c =
     let h = opened m c.store_tag.result st old mid tag c.in-Ok.ensures.faults c.in-Ok.ensures.settles c.in-Ok.ensures.store c.in-Ok.ensures.any_moment in
     let is : c.open-signer.result ≡ signer_of m st = c.open-signer.ensures.value in
     let next : c.state-next.result.next ≡ st.state.next = ap (λ (s : Stored). s.next) c.state-next.ensures.value in
-    let seed : c.nonce_seed.result ≡ nonce_seed m.own.secret st.state.next = c.nonce_seed.ensures ∙ ap (nonce_seed m.own.secret) next in
+    let nonces : nonce c.nonce_seed.result ≡ nonce (nonce_seed m.own.secret st.state.next) = ap nonce (c.nonce_seed.ensures ∙ ap (nonce_seed m.own.secret) next) in
     let e = c.in-Ok-start.ensures in
     record {
       opened = tt;
-      begins = started-from m st c.in-Ok-start.node c.start.new.events c.args.events.now old mid new c.open-signer.result c.nonce_seed.result h is seed c.requires.untold
+      begins = started-from m st c.in-Ok-start.node c.start.new.events c.args.events.now old mid new c.open-signer.result (nonce c.nonce_seed.result) h is nonces c.requires.untold
           c.open-signer.ensures.begins e.faults e.starts e.vouchable e.going e.closed e.spends;
     }
 

@@ -19,5 +19,5 @@ returns-clause-plays c = λ s es os call p.
     let h = call.node.probes in
     let at = probed-at s es os v call c.pong-counted.new.self (ponged h c.args.from c.args.nonce) p0 (λ n. c.pong-counted.ensures.holds h n.probes) in
     let told_it = c.tell.ensures.plays s es os (with_probes (ponged h c.args.from c.args.nonce) call) at in
-    let same = c.pong-counted.ensures.value h is.probes in
+    let same = c.pong-counted.ensures.value h is.probes.stands in
     subst (Plays s es os c.tell.new.self) (ap (λ b. tells s (told.Pong c.args.from c.args.nonce b) (with_probes (ponged h c.args.from c.args.nonce) call)) same ∙ sym (ponged-is s c.args.from c.args.nonce call)) told_it)

@@ -85,7 +85,7 @@ returns-in-Ok-clause-plays g c = λ s es os n p.
     let watching = watched-same s v c1.node n1 c.self.invariant.detector_group in
     record {
       due = sym (same h) ∙ is;
-      silent_is = c.in-Ok.ensures.silent ∙ c.tick.ensures.silent c1.node.probes (state_of s c1.node) n1.probes n1.holds ∙ ap (λ ws. silent_of c1.node.probes ws) watching;
+      silent_is = c.in-Ok.ensures.silent ∙ c.tick.ensures.silent c1.node.probes (state_of s c1.node) n1.probes.stands n1.holds ∙ ap (λ ws. silent_of c1.node.probes ws) watching;
       pings_is = c.in-Ok.ensures.pings ∙ c.tick.ensures.pings c1.node.probes (state_of s c1.node) n1.probes n1.holds ∙ ap (λ ws. pings_of c1.node.probes b ws) watching ∙ ap (λ (x : Bool). pings_of c1.node.probes x (watched_by s (state_of s c1.node))) is;
       round_is = search rules ∙ round-same s v c1.node c.now-now.result c.from-period.result n1 c.now-now.ensures.moment c.from-period.ensures;
     })
@@ -212,7 +212,7 @@ returns-in-Ok-clause-follows g c = λ s es os n d p told fine.
     let watching = watched-same s v c1.node n1 c.self.invariant.detector_group in
     let finds : FindsDue s n silent pings round = record {
       due = sym same ∙ is;
-      silent_is = c.in-Ok.ensures.silent ∙ c.tick.ensures.silent c1.node.probes (state_of s c1.node) n1.probes n1.holds ∙ ap (λ ws. silent_of c1.node.probes ws) watching;
+      silent_is = c.in-Ok.ensures.silent ∙ c.tick.ensures.silent c1.node.probes (state_of s c1.node) n1.probes.stands n1.holds ∙ ap (λ ws. silent_of c1.node.probes ws) watching;
       pings_is = c.in-Ok.ensures.pings ∙ c.tick.ensures.pings c1.node.probes (state_of s c1.node) n1.probes n1.holds ∙ ap (λ ws. pings_of c1.node.probes b ws) watching ∙ ap (λ (x : Bool). pings_of c1.node.probes x (watched_by s (state_of s c1.node))) is;
       round_is = search rules ∙ round-same s v c1.node c.now-now.result c.from-period.result n1 c.now-now.ensures.moment c.from-period.ensures;
     } in

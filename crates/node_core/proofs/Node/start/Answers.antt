@@ -1,6 +1,7 @@
 use Rattle.std.proofs.Common.{◌≡◌, List, ◌++◌, false, ap, sym, subst, ◌∙◌}
 use Rattle.records.specs.declared.Record.{Record}
 use Rattle.journal.specs.declared.event.Event as journal
+use Rattle.detector.specs.Silence.{nonce}
 use Rattle.node_rules.specs.Starting.{started}
 use Rattle.node_core.specs.Told.{IsNoLoss, Tellings}
 use Rattle.node_core.specs.Rolls.{recs_of}
@@ -17,14 +18,14 @@ pub returns-clause-starts : goal.returns-clause-starts
 returns-clause-starts g c = λ s setting.
     let certificates : List Record = recs_of c.args.kit.certificates.items in
     let may = c.in_ok-ready.ensures.begins s setting in
-    let call = started s c.args.kit.nonce_seed certificates c.args.signer.state in
+    let call = started s (nonce c.args.kit.nonce_seed) certificates c.args.signer.state in
     let fine : c.begin-node.result.telling.failed ≡ false = sym (ap (λ (v : Kept). v.telling.failed) c.node.view_is) ∙ sym c.give_back.ensures.failed ∙ c.if-give_back.false in
-    let at = (c.begin-node.ensures.plays s c.args.kit.nonce_seed certificates c.args.signer.state may).at fine in
+    let at = (c.begin-node.ensures.plays s (nonce c.args.kit.nonce_seed) certificates c.args.signer.state may).at fine in
     let before = ap (λ (t : Tellings). t.events) c.over.ensures in
     record {
       is = subst (λ (v : Kept). IsNode s (record v { telling = c.give_back.new.self }) call.node) (sym c.node.view_is) (other-told s c.begin-node.result call.node c.give_back.new.self at.is);
       told = c.give_back.ensures.events ∙ ap (λ (v : Kept). v.telling.events) c.node.view_is ∙ at.told ∙ ap (λ (xs : List journal.Event). xs ++ call.told) before;
-      sent = sent-started s c.args.kit.nonce_seed certificates c.args.signer.state may.sent_none;
+      sent = sent-started s (nonce c.args.kit.nonce_seed) certificates c.args.signer.state may.sent_none;
     }
 
 pub returns-clause-spends : goal.returns-clause-spends

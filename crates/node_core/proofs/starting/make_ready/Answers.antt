@@ -1,6 +1,7 @@
 use Rattle.records.specs.declared.keys.Key.TheVariants as keys
 use Rattle.std.proofs.Common.{◌≡◌, ◌+◌, refl, ap, ◌∙◌}
 use Rattle.epoch_store.specs.declared.Stored.{Stored}
+use Rattle.detector.specs.Silence.{nonce}
 use Rattle.node_rules.proofs.Allowed.{good-allowed}
 use Rattle.node_core.specs.Rolls.{recs_of}
 use Rattle.node_core.specs.declared.starting.Ready.{Ready}
@@ -22,10 +23,10 @@ returns-clause-ready g c =
       membership_group = c.in-Ok.ensures.groups.membership;
       detector_group = c.in-Ok.ensures.groups.detector;
       signer_group = first.group ∙ c.requires.signer;
-      joined = own-joined c.args.kit.group c.args.kit.me c.args.kit.authority c.args.signer c.args.kit.nonce_seed (recs_of c.args.kit.certificates.items) c.in-Ok.parts c.in-Ok.ensures.opened k.certificates.apart k.certificates.among;
+      joined = own-joined c.args.kit.group c.args.kit.me c.args.kit.authority c.args.signer (nonce c.args.kit.nonce_seed) (recs_of c.args.kit.certificates.items) c.in-Ok.parts c.in-Ok.ensures.opened k.certificates.apart k.certificates.among;
       allowed = good-allowed c.args.kit.group.t c.sign_first.new.signer.state.mask.0 first.good;
       notes = c.in-Ok.ensures.notes;
-      newest_own = own-unnoted c.args.kit.group c.args.kit.me c.args.kit.authority c.args.signer c.args.kit.nonce_seed (recs_of c.args.kit.certificates.items) c.in-Ok.parts c.in-Ok.ensures.opened k.certificates.apart;
+      newest_own = own-unnoted c.args.kit.group c.args.kit.me c.args.kit.authority c.args.signer (nonce c.args.kit.nonce_seed) (recs_of c.args.kit.certificates.items) c.in-Ok.parts c.in-Ok.ensures.opened k.certificates.apart;
       is_open = first.closed ∙ c.requires.open;
     }
 
@@ -51,7 +52,7 @@ returns-clause-begins g c = λ s setting.
       note = c.in_ok-first.first.note;
       rec = c.in_ok-first.first.rec;
     } in
-    may-begin s c.args.kit.nonce_seed (recs_of c.args.kit.certificates.items) r c.in-Ok.parts c.args.signer c.in_ok-first.first setting c.in-Ok.ensures.opened first c.requires.signer refl refl
+    may-begin s (nonce c.args.kit.nonce_seed) (recs_of c.args.kit.certificates.items) r c.in-Ok.parts c.args.signer c.in_ok-first.first setting c.in-Ok.ensures.opened first c.requires.signer refl refl
     c.new.ensures.items since refl refl refl
 
 pub returns-in_default-clause-untold : goal.returns-in_default-clause-untold

@@ -5,7 +5,7 @@ use Rattle.node_core.specs.Answers.{CallerBuffers, GivesCall}
 use Rattle.node_core.specs.Playing.{Kept}
 use Rattle.node_rules.specs.OnDisks.{Delivers}
 use Rattle.node_core.specs.Spending.{SpendsIn}
-use Rattle.node_loop.specs.Turns.{Calls}
+use Rattle.turn_rules.specs.Turns.{Calls}
 use Rattle.node_loop.specs.Serving.{Serves}
 use Rattle.node_loop.specs.Writing.{standing}
 use Rattle.node_loop.proofs.CallLemmas.{lent, lent-none, serves-call}

@@ -3,7 +3,7 @@ use Rattle.std.specs.Prelude.{IfErr}
 use Rattle.ports.specs.Count.{Rose, counted}
 use Rattle.node_loop.specs.declared.fault.ServeFault.{ServeFault}
 use Rattle.node_loop.specs.declared.fault.ServeFault.TheVariants as faults
-use Rattle.node_loop.specs.Turns.{ticks_of}
+use Rattle.turn_rules.specs.Turns.{ticks_of}
 use Rattle.node_loop.specs.Courses.{served}
 use Rattle.node_loop.specs.Serving.{Serves}
 use Rattle.node_loop.specs.Writing.{Stands, Standing, is_write_fault, standing}

@@ -1,6 +1,6 @@
 use Rattle.std.proofs.Common.{◌≡◌, Ok, true, false}
 use Rattle.node_rules.specs.Nodes.{Setting}
-use Rattle.node_loop.specs.Turns.{ticks_of}
+use Rattle.turn_rules.specs.Turns.{ticks_of}
 use Rattle.node_loop.specs.Courses.{ServeState, served}
 use Rattle.node_loop.specs.Lines.{GoesOn}
 use Rattle.node_loop.specs.Writing.{Before, Stands, standing}

@@ -5,7 +5,8 @@ use Rattle.ports.specs.Outside.{OfLink}
 use Rattle.node_loop.specs.declared.fault.ServeFault.{ServeFault}
 use Rattle.node_loop.specs.declared.fault.ServeFault.TheVariants as faults
 use Rattle.node_loop.specs.declared.turns.Pace.{Pace}
-use Rattle.node_loop.specs.Turns.{Act, Outlook, room, after_turn, life_acts, pace_for, turn_acts, turn_in, turns_from}
+use Rattle.turn_rules.specs.Turns.{Act, turn_acts}
+use Rattle.node_loop.specs.Turns.{Outlook, room, after_turn, life_acts, pace_for, turn_in, turns_from}
 use Rattle.node_loop.specs.Courses.{ServeState, served, served_from}
 use Rattle.node_loop.specs.Serving.{Sees, Serves}
 use Rattle.node_loop.specs.Writing.{Before, Stands, Standing, before_all, standing}

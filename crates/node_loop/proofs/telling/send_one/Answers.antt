@@ -4,7 +4,8 @@ use Rattle.ports.specs.Count.{counted}
 use Rattle.journal.specs.declared.event.What.TheVariants as kinds
 use Rattle.signer.specs.Lives.{Spent}
 use Rattle.node_loop.specs.declared.fault.ServeFault.{ServeFault}
-use Rattle.node_loop.specs.Courses.{ServeState, fails_next, hands_over, line_of, sends_one, writes_event}
+use Rattle.node_loop.specs.Courses.{ServeState, fails_next, hands_over, sends_one, writes_event}
+use Rattle.turn_rules.specs.Lines.{line_of}
 use Rattle.node_loop.specs.Gathering.{SpentBut, TellsBut}
 use Rattle.node_loop.specs.Writing.{IsAt, Standing, standing}
 use Rattle.node_loop.proofs.TellLemmas.{extends-handed, extends-trans, handed, lost-is, not-given, not-handed}

@@ -1,7 +1,9 @@
 use Rattle.std.proofs.Common.{◌≡◌, ℕ, Bool, List, ◌++◌, Some, append-nil, subst, sym, ap, ◌∙◌}
 use Rattle.ports.specs.Count.{counted}
 use Rattle.signer.specs.Lives.{Spent}
-use Rattle.node_loop.specs.Courses.{datagram_in, line_of, sends_one, writes}
+use Rattle.turn_rules.specs.Courses.{datagram_in}
+use Rattle.turn_rules.specs.Lines.{line_of}
+use Rattle.node_loop.specs.Courses.{sends_one, writes}
 use Rattle.node_loop.specs.Gathering.{SpentBut}
 use Rattle.node_loop.specs.Writing.{Standing, standing}
 use Rattle.node_loop.proofs.GatherLemmas.{extends-gathered, gathered, spent-gathered}

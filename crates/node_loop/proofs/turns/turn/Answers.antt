@@ -4,8 +4,10 @@ use Rattle.journal.specs.declared.turn.Heard.{Heard}
 use Rattle.journal.specs.declared.turn.Turn.{Turn}
 use Rattle.journal.specs.Turns.{turn_text}
 use Rattle.node_loop.specs.declared.fault.ServeFault.{ServeFault}
-use Rattle.node_loop.specs.Turns.{Receives, turn_acts, turn_in}
-use Rattle.node_loop.specs.Courses.{ServeState, acted, with_feed, writes}
+use Rattle.turn_rules.specs.Turns.{Receives, turn_acts}
+use Rattle.node_loop.specs.Turns.{turn_in}
+use Rattle.node_loop.specs.Courses.{ServeState, acted, writes}
+use Rattle.turn_rules.specs.Lines.{with_feed}
 use Rattle.node_loop.specs.Writing.{Stands, Standing, has_failed, standing}
 use Rattle.node_loop.specs.Serving.{Serves}
 use Rattle.node_loop.proofs.LineLemmas.{goes-as, goes-from, goes-same, goes-trans, goes-turn}

@@ -8,8 +8,9 @@ use Rattle.node_core.specs.Playing.{Kept}
 use Rattle.node_core.specs.Spending.{SpendsIn, spent_told}
 use Rattle.node_rules.specs.OnDisks.{Delivers}
 use Rattle.node_loop.specs.declared.fault.ServeFault.{ServeFault}
-use Rattle.node_loop.specs.Turns.{Writes, delivery_of}
-use Rattle.node_loop.specs.Courses.{ServeState, tells_all, with_feed, writes}
+use Rattle.turn_rules.specs.Turns.{Writes, delivery_of}
+use Rattle.node_loop.specs.Courses.{ServeState, tells_all, writes}
+use Rattle.turn_rules.specs.Lines.{with_feed}
 use Rattle.node_loop.specs.Gathering.{IsAtBut}
 use Rattle.node_loop.specs.Lines.{WritesSpent}
 use Rattle.node_loop.specs.Serving.{Serves}
@@ -100,7 +101,7 @@ returns-in_err-write_gathered-in-Err-clause-serves g c = λ s before r at.
     let older = (g.D.Disk.state c.args.disk.now).moments in
     let newer = (g.D.Disk.state c.deliver.new.disk).moments in
     let w : Standing = standing v l0 t1 newer c.args.sent.now in
-    subst (λ x. Serves s before (Writes (turn_text turn) ∷ delivery_of turn.heard) r w x) (sym (thrown c.from_residual.result e c.from_residual.ensures.1))
+    subst (λ x. Serves s before (Writes turn ∷ delivery_of turn.heard) r w x) (sym (thrown c.from_residual.result e c.from_residual.ensures.1))
     (quiet-broke s before c.args.node.now v l0 t0 t1 older newer c.args.sent.now r turn c.gather_turn.new.lines.items e at same.0 (ap (λ (d : OfDisk). d.moments) same.1) is
     c.in_err-write_gathered-in-Err.ensures.wrote c.in_err-write_gathered-in-Err.ensures.cause)
 

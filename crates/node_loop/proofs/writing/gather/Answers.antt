@@ -1,5 +1,5 @@
 use Rattle.std.proofs.Common.{subst, sym}
-use Rattle.node_loop.specs.Courses.{line_of}
+use Rattle.turn_rules.specs.Lines.{line_of}
 use Rattle.node_loop.specs.Gathering.{GathersLine}
 use Rattle.node_loop.proofs.GatherLemmas.{gathers-refused}
 use Rattle.node_loop.proofs.writing.gather.Goals as goal

@@ -1,6 +1,6 @@
 use Rattle.std.proofs.Common.{subst, sym}
 use Rattle.journal.specs.declared.event.What.TheVariants as kinds
-use Rattle.node_loop.specs.Courses.{line_of}
+use Rattle.turn_rules.specs.Lines.{line_of}
 use Rattle.node_loop.specs.Gathering.{WritesBehind}
 use Rattle.node_loop.proofs.GatherLemmas.{behind-added, behind-refused}
 use Rattle.node_loop.proofs.writing.write_with_sent.Goals as goal

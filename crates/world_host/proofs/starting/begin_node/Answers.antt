@@ -6,6 +6,7 @@ use Rattle.epoch_store.specs.Calls.{StoreState}
 use Rattle.secrets.specs.Secrets.{nonce_seed, world_secret}
 use Rattle.sign_keys.specs.Keys.{KeySecret, index_count, public_key, secret_of}
 use Rattle.signer.specs.Signing.{SignerState}
+use Rattle.detector.specs.Silence.{nonce}
 use Rattle.node_core.specs.Begins.{IsKit}
 use Rattle.node_core.specs.declared.kit.Kit.{Kit}
 use Rattle.node_core.specs.Playing as node
@@ -25,7 +26,7 @@ pub returns-clause-going : goal.returns-clause-going
 returns-clause-going c =
     let kit : Kit = c.in_ok-kit.kit in
     let signer : SignerState = c.open-signer.result in
-    start-going (node.setting_of kit.group kit.heal kit.me kit.authority signer.key) (public_key signer.key) kit.nonce_seed (recs_of kit.certificates.items) signer.state c.args.events.now c.start.new.events c.start.result c.start_of.result
+    start-going (node.setting_of kit.group kit.heal kit.me kit.authority signer.key) (public_key signer.key) (nonce kit.nonce_seed) (recs_of kit.certificates.items) signer.state c.args.events.now c.start.new.events c.start.result c.start_of.result
     c.start.ensures.starts c.start.ensures.vouchable c.start.ensures.going c.start_of.ensures
 
 pub returns-clause-begins : goal.returns-clause-begins
@@ -41,9 +42,9 @@ returns-clause-begins c = λ s kinds tag e w certified key_is store_is h none.
     let seat : signer.seat ≡ seat_of tag e = ap (λ (x : SignerState). x.seat) opened ∙ ap (λ (x : StoreState). x.seat) store_is in
     let key : signer.key ≡ owner_key g kinds (Some m) = ap (λ (x : SignerState). x.key) opened ∙ key_is in
     let leaves : index_count signer.key ≡ s.indexes = ap index_count key ∙ own-indexes g kinds m ∙ sym (indexes-are s g kinds w) in
-    let seeded : kit.nonce_seed ≡ s.nonces m e.state.next = kit_is.seed ∙ ap (λ (k : Stored). nonce_seed (world_secret g.tag m) k.next) stored ∙ sym (nonces-are s g kinds m e.state.next w) in
+    let seeded : nonce kit.nonce_seed ≡ s.nonces m e.state.next = ap nonce (kit_is.seed ∙ ap (λ (k : Stored). nonce_seed (world_secret g.tag m) k.next) stored) ∙ sym (nonces-are s g kinds m e.state.next w) in
     answer-is s tag m e c.start.new.disk c.start.new.events c.start.result c.start_of.result
-    (begins-by s g kit.group kinds m kit.me tag kit.nonce_seed (public_key signer.key) (recs_of kit.certificates.items) e c.args.disk.now c.start.new.disk signer (node.setting_of kit.group kit.heal kit.me kit.authority signer.key)
+    (begins-by s g kit.group kinds m kit.me tag (nonce kit.nonce_seed) (public_key signer.key) (recs_of kit.certificates.items) e c.args.disk.now c.start.new.disk signer (node.setting_of kit.group kit.heal kit.me kit.authority signer.key)
     c.args.events.now c.start.new.events c.start.result w h seeded (ap recs_of kit_is.certificates ∙ certified.certified) none kit_is.group kit_is.me state seat leaves
     (own-kit s g kit.group kinds m kit.me kit.authority signer.key kit.heal w (ap keys.Lms kit_is.authority ∙ certified.key) kit_is.group kit_is.me key (kit_is.heal ∙ certified.heal))
     c.start.ensures.starts c.start.ensures.vouchable c.start.ensures.going c.start.ensures.closed c.start.ensures.seat c.start.ensures.cause c.start.ensures.puts)

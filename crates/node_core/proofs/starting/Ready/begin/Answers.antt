@@ -18,10 +18,10 @@ use Rattle.node_core.proofs.SpendLemmas.{spent-then}
 use Rattle.node_core.proofs.starting.Ready.begin.Goals as goal
 
 pub returns-clause-plays : goal.returns-clause-plays
-returns-clause-plays c = λ s seed certificates stored may.
+returns-clause-plays c = λ s nonces certificates stored may.
     let told = c.args.telling in
     let b : Body = bodies.Note c.args.self.note in
-    let call = opened s seed certificates stored in
+    let call = opened s nonces certificates stored in
     let kept : Call = keeps s (own_record s call.node b) (spends s b call) in
     let v : Kept = kept_by c.args.self told in
     let own : keys.Note c.args.self.me ≡ key_of b = ap (λ (n : NoteBody). keys.Note n.member) (sym c.requires.own) in
@@ -29,7 +29,7 @@ returns-clause-plays c = λ s seed certificates stored may.
     let done = c.keep_own.ensures.plays s told.events told.sent v call c.requires.ready.membership_group refl (plays-at s told.events told.sent v (with_stored b call) at) may.index may.own in
     let fresh = c.with_own_news.ensures.plays s told.events told.sent kept done in
     subst (Plays s told.events told.sent c.with_own_news.result)
-    (signs-fresh s b (keys.Note c.args.self.me) call tt own ∙ ap (λ x. signs s x call) may.first ∙ sym (started-is s seed certificates stored)) fresh
+    (signs-fresh s b (keys.Note c.args.self.me) call tt own ∙ ap (λ x. signs s x call) may.first ∙ sym (started-is s nonces certificates stored)) fresh
 
 pub returns-clause-front : goal.returns-clause-front
 returns-clause-front c =

@@ -1,5 +1,0 @@
-use Rattle.node_core.proofs.GossipLemmas.{last-more}
-use Rattle.node_core.proofs.gossiping.highest.Goals as goal
-
-pub loop-member-preserved : goal.loop-member-preserved
-loop-member-preserved c = last-more c.args.numbers.now c.loop-member.member-index c.member-item.result c.loop-member-test.true c.member-item.is

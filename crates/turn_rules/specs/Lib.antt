@@ -1,0 +1,10 @@
+pub mod Turns
+pub mod Lines
+pub mod Courses
+pub mod Journals
+pub mod Removals
+pub mod Replies
+pub mod Departures
+pub mod Sendings
+pub mod Showings
+pub mod Written
