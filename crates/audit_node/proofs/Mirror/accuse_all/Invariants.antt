@@ -1,0 +1,7 @@
+use Rattle.std.proofs.Common.{All, ◌≡◌, ◌++◌, ℕ, List}
+use Rattle.records.specs.Spelling.{HasPort}
+use Rattle.audit_node.specs.Handled.{Accused}
+use Rattle.audit_node.proofs.Mirror.accuse_all.Given as goal
+
+abbrev pub invariant-loop-member : goal.invariant-loop-member
+invariant-loop-member l = Accused l.initial.self l.self l.fn.silent.items l.member-iterator.rest.items

@@ -1,0 +1,18 @@
+use Rattle.std.proofs.Common.{◌≡◌, Ok, Err, ap, refl, sym, subst, ◌∙◌}
+use Rattle.node_rules.specs.Calls.{begun}
+use Rattle.datagram.specs.Grammar.{read_of}
+use Rattle.node_rules.specs.Deliveries.{delivered}
+use Rattle.audit_node.specs.Owing.{told_by}
+use Rattle.audit_node.specs.Told.{Tellings}
+use Rattle.audit_node.specs.Playing.{Kept, IsMirror, Plays, Grows}
+use Rattle.audit_node.specs.contracts.Mirror.{the_view}
+use Rattle.audit_node.proofs.DeliverLemmas.{begins-at, delivered-is, gives-if}
+use Rattle.audit_node.proofs.Mirror.deliver.Goals as goal
+
+pub returns : goal.returns
+returns c =
+    let v : Kept = the_view c.self.inside in
+    let over = c.over.ensures in
+    gives-if c.args.self.now v c.over.result c.hear_read.new.self c.finish.new.self c.args.owed.now.items c.finish.new.owed.items c.finish.result (λ s n. delivered s n c.args.bytes.now) c.self.view_is
+    over c.hear_read.ensures.grows c.finish.ensures.events c.finish.ensures.going c.finish.ensures.frame
+    (λ s n is. delivered-is s (told_by s c.over.result.events) c.hear_read.new.self n c.args.bytes.now (c.hear_read.ensures.plays c.args.bytes.now c.read-heard.ensures.exact s (told_by s c.over.result.events) (begun n) (begins-at s v n c.over.result is (ap (λ (t : Tellings). t.sent) over))))

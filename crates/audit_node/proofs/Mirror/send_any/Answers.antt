@@ -1,0 +1,17 @@
+use Rattle.std.proofs.Common.{rules, ◌≡◌, ◌≢◌, List, [], ap, map, length, sym, subst, ◌∙◌}
+use Rattle.records.specs.declared.Record.{Record}
+use Rattle.audit_node.specs.Owing.{item_of}
+use Rattle.audit_node.specs.Playing.{Plays}
+use Rattle.audit_node.proofs.SpreadLemmas.{some-spread, no-items, some-items}
+use Rattle.node_rules.specs.Ticking.{spreads_all}
+use Rattle.audit_node.proofs.Mirror.send_any.Goals as goal
+
+pub returns-then-not-is_empty-clause-plays : goal.returns-then-not-is_empty-clause-plays
+returns-then-not-is_empty-clause-plays c = λ s es call rs p are.
+    let some : rs ≢ [] = some-items (item_of s) c.args.items.now rs (search rules) are in
+    subst (Plays s es c.send_to_neighbours.new.self) (some-spread s rs call some) (c.send_to_neighbours.ensures.plays s es call rs p are)
+
+pub returns-else-not-is_empty-clause-plays : goal.returns-else-not-is_empty-clause-plays
+returns-else-not-is_empty-clause-plays c = λ s es call rs p are.
+    let none : rs ≡ [] = no-items (item_of s) c.args.items.now rs (search rules) are in
+    subst (λ xs. Plays s es c.args.self.now (spreads_all s xs call)) (sym none) p

@@ -1,0 +1,14 @@
+pub mod Owing
+pub mod Told
+pub mod Records
+pub mod Returning
+pub mod News
+pub mod Noted
+pub mod Playing
+pub mod Neighbours
+pub mod Signatures
+pub mod Exchanging
+pub mod Rolls
+pub mod Begins
+pub mod Answers
+pub mod Handled
