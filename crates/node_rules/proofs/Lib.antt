@@ -50,3 +50,4 @@ mod Whole
 pub mod Told
 mod Readable
 mod Spelled
+mod OwnRecords

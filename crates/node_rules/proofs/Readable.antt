@@ -28,7 +28,7 @@ use Rattle.node_rules.specs.Calls.{Call, begun, lives, takes, signs, sends}
 use Rattle.node_rules.specs.Ticking.{passed}
 use Rattle.node_rules.specs.Lives.{Input, Delivers, Ticks as Tick, Leaves, call_of}
 use Rattle.node_rules.specs.OneExchange.{node_after, IsOfBytes}
-use Rattle.node_rules.specs.Readable.{AreRead, IsReadable, IsReadableIn, SentRecordsAreRead, ToldRecordsAreRead}
+use Rattle.node_rules.specs.Readable.{AreRead, IsReadable, OfSent, SentRecordsAreRead, ToldRecordsAreRead}
 use Rattle.node_rules.specs.Sending.{is_sent, sendings}
 use Rattle.node_rules.proofs.Sendings.{call-sendings}
 use Rattle.node_rules.proofs.Forms.{Formed, formed-life, keeping-life, read-formed}
@@ -66,7 +66,7 @@ all-short (r ∷ x ∷ records) all (inr one) = absurd (omega (arith, one))
 
 -- ---- one datagram
 
-abbrev AllFormed : Node → Type 0
+abbrev pub AllFormed : Node → Type 0
 AllFormed n = (k : RecordKey) (r : Record) → n.held k ≡ Some r → IsSignedRecord r
 
 moved : (s : Setting) (bytes : List ℕ) (from x : ℕ) (records others : List Record) → kinds.Records from records ≡ kinds.Records x others → AreRead s bytes from records → AreRead s bytes x others
@@ -75,30 +75,37 @@ moved s bytes from x records others e h =
     let same : records ≡ others = cc in
     subst (λ rs. AreRead s bytes x rs) same (subst (λ k. AreRead s bytes k records) sender h)
 
-readable : (s : Setting) (n : Node) (d : Datagram) → s.me < MEMBERS → AllFormed n → IsOfHeld s n d → IsReadable s (datagram_bytes d)
+-- records that are held are read
+pub records-read : (s : Setting) (n : Node) (from : ℕ) (records : List Record) → s.me < MEMBERS → AllFormed n → IsOfHeld s n (kinds.Records from records) → AreRead s (datagram_bytes (kinds.Records from records)) from records
+records-read s n from records me formed held =
+    let all : AllByRecursion IsSignedRecord records = held-all IsSignedRecord n.held records formed held.each in
+    let d : Datagram = kinds.Records from records in
+    let is : IsDatagram (datagram_bytes d) d = is-datagram from records (subst (λ k. k < MEMBERS) (sym held.sender) me) held.some all (all-short records all held.short) in
+    record { sender = held.sender; whole = is; read = read_again (datagram_bytes d) d is }
+
+pub readable : (s : Setting) (n : Node) (d : Datagram) → s.me < MEMBERS → AllFormed n → IsOfHeld s n d → IsReadable s (datagram_bytes d)
 readable s n (kinds.Ping from nonce) me formed held = record { datagram = kinds.Ping from nonce; spelled = refl; records = λ x records e. cc }
 readable s n (kinds.Pong from nonce) me formed held = record { datagram = kinds.Pong from nonce; spelled = refl; records = λ x records e. cc }
 readable s n (kinds.Summary from flag summary) me formed held = record { datagram = kinds.Summary from flag summary; spelled = refl; records = λ x records e. cc }
 readable s n (kinds.Records from records) me formed held =
-    let all : AllByRecursion IsSignedRecord records = held-all IsSignedRecord n.held records formed held.each in
     let d : Datagram = kinds.Records from records in
-    let is : IsDatagram (datagram_bytes d) d = is-datagram from records (subst (λ k. k < MEMBERS) (sym held.sender) me) held.some all (all-short records all held.short) in
-    let here : AreRead s (datagram_bytes d) from records = record { sender = held.sender; whole = is; read = read_again (datagram_bytes d) d is } in
-    record { datagram = d; spelled = refl; records = λ x others e. moved s (datagram_bytes d) from x records others e here }
+    record { datagram = d; spelled = refl; records = λ x others e. moved s (datagram_bytes d) from x records others e (records-read s n from records me formed held) }
 
 -- ---- so far
 
-record Reads (s : Setting) (Q : Node → Type 0) (c : Call) : Type 0 where
-  formed : Q c.node
-  sent : AllByRecursion (λ d. IsReadable s d.1) c.sent
+-- What the call has sent is so, and the node.
+record Sends (P : List ℕ → Type 0) (Q : Node → Type 0) (c : Call) : Type 0 where
+  node : Q c.node
+  sent : AllByRecursion (λ d. P d.1) c.sent
 
-reads-sends : (s : Setting) (Q : Node → Type 0) (d : Datagram) (c : Call) (to : ℕ) → ((n : Node) → Q n → AllFormed n) → s.me < MEMBERS → IsOfHeld s c.node d → Reads s Q c → Reads s Q (sends s d c to)
+-- the bytes of what such a node holds are so
+abbrev pub Fits : (List ℕ → Type 0) → (Node → Type 0) → Setting → Type 0
+Fits P Q s = (n : Node) (d : Datagram) → Q n → IsOfHeld s n d → P (datagram_bytes d)
+
+sends-more : (P : List ℕ → Type 0) (Q : Node → Type 0) (s : Setting) (d : Datagram) (c : Call) (to : ℕ) → Fits P Q s → IsOfHeld s c.node d → Sends P Q c → Sends P Q (sends s d c to)
 unfolding sends
-reads-sends s Q d c to formed me held h =
-    record {
-      formed = h.formed;
-      sent = all-append (λ (x : ℕ × List ℕ). IsReadable s x.1) c.sent ((to, datagram_bytes d) ∷ []) h.sent (readable s c.node d me (formed c.node h.formed) held, tt);
-    }
+sends-more P Q s d c to fits held h =
+    record { node = h.node; sent = all-append (λ (x : ℕ × List ℕ). P x.1) c.sent ((to, datagram_bytes d) ∷ []) h.sent (fits c.node d h.node held, tt) }
 
 sent-takes : (s : Setting) (r : Record) (c : Call) → (takes s r c).sent ≡ c.sent
 unfolding takes lives
@@ -112,72 +119,73 @@ sent-passed : (s : Setting) (n : Node) → (passed s n).sent ≡ []
 unfolding passed lives
 sent-passed s n = refl
 
-same-sent : (s : Setting) (xs ys : List (ℕ × List ℕ)) → xs ≡ ys → AllByRecursion (λ (d : ℕ × List ℕ). IsReadable s d.1) ys → AllByRecursion (λ (d : ℕ × List ℕ). IsReadable s d.1) xs
-same-sent s xs ys e all = subst (AllByRecursion (λ (d : ℕ × List ℕ). IsReadable s d.1)) (sym e) all
+same-sent : (P : List ℕ → Type 0) (xs ys : List (ℕ × List ℕ)) → xs ≡ ys → AllByRecursion (λ (d : ℕ × List ℕ). P d.1) ys → AllByRecursion (λ (d : ℕ × List ℕ). P d.1) xs
+same-sent P xs ys e all = subst (AllByRecursion (λ (d : ℕ × List ℕ). P d.1)) (sym e) all
 
-going : (s : Setting) (Q : Node → Type 0) → ((n : Node) → Q n → AllFormed n) → s.me < MEMBERS → KeepsNode s IsSignedRecord Q → Goes s IsSignedRecord (Reads s Q)
-going s Q formed me k =
+going : (P : List ℕ → Type 0) (Q : Node → Type 0) (s : Setting) → Fits P Q s → KeepsNode s IsSignedRecord Q → Goes s IsSignedRecord (Sends P Q)
+going P Q s fits k =
     record {
-      told = λ what c of h. record { formed = h.formed; sent = h.sent };
-      sent = λ d c to held h. reads-sends s Q d c to formed me held h;
-      taken = λ r c given fine h. record { formed = k.taken r c given fine h.formed; sent = same-sent s _ _ (sent-takes s r c) h.sent };
+      told = λ what c of h. record { node = h.node; sent = h.sent };
+      sent = λ d c to held h. sends-more P Q s d c to fits held h;
+      taken = λ r c given fine h. record { node = k.taken r c given fine h.node; sent = same-sent P _ _ (sent-takes s r c) h.sent };
       answered = λ r a c given fine is mine may left h.
-          record { formed = k.answered r a c given fine is mine may left h.formed; sent = same-sent s _ _ (sent-signs s _ (takes s r c) ∙ sent-takes s r c) h.sent };
-      returned = λ r a c asks may left h. record { formed = k.returned r a c asks may left h.formed; sent = same-sent s _ _ (sent-signs s _ c) h.sent };
-      accused = λ m ring c found left h. record { formed = k.accused m ring c found left h.formed; sent = same-sent s _ _ (sent-signs s _ c) h.sent };
-      departed = λ c left h. record { formed = k.departed c left h.formed; sent = same-sent s _ _ (sent-signs s _ c) h.sent };
-      probed = λ p c h. record { formed = k.probed p c h.formed; sent = h.sent };
-      spanned = λ c h. record { formed = k.spanned c h.formed; sent = h.sent };
-      spread = λ c h. record { formed = k.spread c h.formed; sent = h.sent };
+          record { node = k.answered r a c given fine is mine may left h.node; sent = same-sent P _ _ (sent-signs s _ (takes s r c) ∙ sent-takes s r c) h.sent };
+      returned = λ r a c asks may left h. record { node = k.returned r a c asks may left h.node; sent = same-sent P _ _ (sent-signs s _ c) h.sent };
+      accused = λ m ring c found left h. record { node = k.accused m ring c found left h.node; sent = same-sent P _ _ (sent-signs s _ c) h.sent };
+      departed = λ c left h. record { node = k.departed c left h.node; sent = same-sent P _ _ (sent-signs s _ c) h.sent };
+      probed = λ p c h. record { node = k.probed p c h.node; sent = h.sent };
+      spanned = λ c h. record { node = k.spanned c h.node; sent = h.sent };
+      spread = λ c h. record { node = k.spread c h.node; sent = h.sent };
     }
 
 -- ---- calls
 
-reads-passed : (s : Setting) (Q : Node → Type 0) (n : Node) → KeepsNode s IsSignedRecord Q → Q n → Reads s Q (passed s n)
+sends-passed : (P : List ℕ → Type 0) (Q : Node → Type 0) (s : Setting) (n : Node) → KeepsNode s IsSignedRecord Q → Q n → Sends P Q (passed s n)
 unfolding passed
-reads-passed s Q n k h = record { formed = k.passed (begun n) h; sent = same-sent s _ _ (sent-passed s n) tt }
+sends-passed P Q s n k h = record { node = k.passed (begun n) h; sent = same-sent P _ _ (sent-passed s n) tt }
 
-reads-opens : (s : Setting) (Q : Node → Type 0) (n : Node) (i : Input) → KeepsNode s IsSignedRecord Q → Q n → Reads s Q (opens s n i)
-reads-opens s Q n (Delivers bytes) k h = record { formed = h; sent = tt }
-reads-opens s Q n Tick k h = reads-passed s Q n k h
-reads-opens s Q n Leaves k h = record { formed = h; sent = tt }
+sends-opens : (P : List ℕ → Type 0) (Q : Node → Type 0) (s : Setting) (n : Node) (i : Input) → KeepsNode s IsSignedRecord Q → Q n → Sends P Q (opens s n i)
+sends-opens P Q s n (Delivers bytes) k h = record { node = h; sent = tt }
+sends-opens P Q s n Tick k h = sends-passed P Q s n k h
+sends-opens P Q s n Leaves k h = record { node = h; sent = tt }
 
 input-formed : (i : Input) → IsOfBytes i → IsInput IsSignedRecord i
 input-formed (Delivers bytes) fits = read-formed bytes fits
 input-formed Tick fits = tt
 input-formed Leaves fits = tt
 
-pub sent-kept : (s : Setting) (Q : Node → Type 0) (n : Node) (i : Input) → ((n : Node) → Q n → AllFormed n) → s.me < MEMBERS → KeepsNode s IsSignedRecord Q → IsOfBytes i → Q n
-    → AllByRecursion (λ (d : ℕ × List ℕ). IsReadable s d.1) (call_of s n i).sent
-sent-kept s Q n i formed me k last h = (goes-call s IsSignedRecord (Reads s Q) (going s Q formed me k) n i (input-formed i last) (reads-opens s Q n i k h)).sent
+-- what a call sends is so
+pub sent-kept : (P : List ℕ → Type 0) (Q : Node → Type 0) (s : Setting) (n : Node) (i : Input) → Fits P Q s → KeepsNode s IsSignedRecord Q → IsOfBytes i → Q n → AllByRecursion (λ (d : ℕ × List ℕ). P d.1) (call_of s n i).sent
+sent-kept P Q s n i fits k last h = (goes-call s IsSignedRecord (Sends P Q) (going P Q s fits k) n i (input-formed i last) (sends-opens P Q s n i k h)).sent
 
 pub sent-read : SentRecordsAreRead
 sent-read l inputs i is within bytes last =
-    sent-kept l.setting (Formed l.setting l.own) (node_after l inputs) i (λ n h. h.held) within.me (keeping-life l is within) last (formed-life l inputs is within bytes)
+    let Q : Node → Type 0 = Formed l.setting l.own in
+    sent-kept (IsReadable l.setting) Q l.setting (node_after l inputs) i (λ n d h held. readable l.setting n d within.me h.held held) (keeping-life l is within) last (formed-life l inputs is within bytes)
 
 -- ---- what is reported as sent
 
-all-sendings : (s : Setting) (place : ℕ) (sent : List (ℕ × List ℕ)) → AllByRecursion (λ (d : ℕ × List ℕ). IsReadable s d.1) sent → AllByRecursion (IsReadableIn s) (sendings place sent)
-all-sendings s place [] all = tt
-all-sendings s place (d ∷ sent) all = (all.0, all-sendings s (place + 1) sent all.1)
+all-sendings : (P : List ℕ → Type 0) (place : ℕ) (sent : List (ℕ × List ℕ)) → AllByRecursion (λ (d : ℕ × List ℕ). P d.1) sent → AllByRecursion (OfSent P) (sendings place sent)
+all-sendings P place [] all = tt
+all-sendings P place (d ∷ sent) all = (all.0, all-sendings P (place + 1) sent all.1)
 
-of-another : (s : Setting) (w : whats.What) → is_sent w ≡ false → IsReadableIn s w
-of-another s (told.Sent number to bytes) h = absurd (false≢true (sym h))
-of-another s other h = tt
+of-another : (P : List ℕ → Type 0) (w : whats.What) → is_sent w ≡ false → OfSent P w
+of-another P (told.Sent number to bytes) h = absurd (false≢true (sym h))
+of-another P other h = tt
 
-in-front : (s : Setting) (b : Bool) (e : journal.Event) (rest : List journal.Event) → is_sent e.what ≡ b → AllByRecursion (IsReadableIn s) (map (λ (x : journal.Event). x.what) (cond b (e ∷ rest) rest))
-    → IsReadableIn s e.what × AllByRecursion (IsReadableIn s) (map (λ (x : journal.Event). x.what) rest)
-in-front s true e rest is all = (all.0, all.1)
-in-front s false e rest is all = (of-another s e.what is, all)
+in-front : (P : List ℕ → Type 0) (b : Bool) (e : journal.Event) (rest : List journal.Event) → is_sent e.what ≡ b → AllByRecursion (OfSent P) (map (λ (x : journal.Event). x.what) (cond b (e ∷ rest) rest))
+    → OfSent P e.what × AllByRecursion (OfSent P) (map (λ (x : journal.Event). x.what) rest)
+in-front P true e rest is all = (all.0, all.1)
+in-front P false e rest is all = (of-another P e.what is, all)
 
-all-told : (s : Setting) (events : List journal.Event) → AllByRecursion (IsReadableIn s) (map (λ (e : journal.Event). e.what) (filter (λ (e : journal.Event). is_sent e.what) events)) → AllByRecursion (λ (e : journal.Event). IsReadableIn s e.what) events
-all-told s [] all = tt
-all-told s (e ∷ events) all =
-    let both = in-front s (is_sent e.what) e (filter (λ (x : journal.Event). is_sent x.what) events) refl all in
-    (both.0, all-told s events both.1)
+all-told : (P : List ℕ → Type 0) (events : List journal.Event) → AllByRecursion (OfSent P) (map (λ (e : journal.Event). e.what) (filter (λ (e : journal.Event). is_sent e.what) events)) → AllByRecursion (λ (e : journal.Event). OfSent P e.what) events
+all-told P [] all = tt
+all-told P (e ∷ events) all =
+    let both = in-front P (is_sent e.what) e (filter (λ (x : journal.Event). is_sent x.what) events) refl all in
+    (both.0, all-told P events both.1)
 
-pub told-sent : (s : Setting) (n : Node) (i : Input) → AllByRecursion (λ (d : ℕ × List ℕ). IsReadable s d.1) (call_of s n i).sent → AllByRecursion (λ (e : journal.Event). IsReadableIn s e.what) (call_of s n i).told
-told-sent s n i all = all-told s (call_of s n i).told (subst (AllByRecursion (IsReadableIn s)) (sym (call-sendings s n i)) (all-sendings s 0 (call_of s n i).sent all))
+pub told-sent : (P : List ℕ → Type 0) (s : Setting) (n : Node) (i : Input) → AllByRecursion (λ (d : ℕ × List ℕ). P d.1) (call_of s n i).sent → AllByRecursion (λ (e : journal.Event). OfSent P e.what) (call_of s n i).told
+told-sent P s n i all = all-told P (call_of s n i).told (subst (AllByRecursion (OfSent P)) (sym (call-sendings s n i)) (all-sendings P 0 (call_of s n i).sent all))
 
 pub told-read : ToldRecordsAreRead
-told-read l inputs i is within bytes last = told-sent l.setting (node_after l inputs) i (sent-read l inputs i is within bytes last)
+told-read l inputs i is within bytes last = told-sent (IsReadable l.setting) l.setting (node_after l inputs) i (sent-read l inputs i is within bytes last)

@@ -60,7 +60,7 @@ authentic-by : (s : Setting) (n : Node) (r : Record) (b : Body) → r.body ≡ b
 authentic-by s n r b is v = record { key = v.key; author_is = ap (author_key s n) is ∙ v.author_is; verifies = v.verifies }
 
 -- an accepted one
-authentic-accepted : (s : Setting) (n : Node) (r : Record) (b : Body) → r.body ≡ b → refusal s n r ≡ None → IsAuthentic s n r
+pub authentic-accepted : (s : Setting) (n : Node) (r : Record) (b : Body) → r.body ≡ b → refusal s n r ≡ None → IsAuthentic s n r
 unfolding refusal
 authentic-accepted s n r (Certificate x) is fine =
     let fine2 : refusal_of s n r (Certificate x) ≡ None = sym (ap (refusal_of s n r) is) ∙ fine in

@@ -31,32 +31,32 @@ use Rattle.node_rules.specs.Deliveries.{answer_to, answering_note, may_rise}
 use Rattle.node_rules.specs.Ticking.{accusation_on, ring_for, monitored_rings}
 use Rattle.node_rules.specs.Starting.{blank, opened, started}
 use Rattle.node_rules.specs.Lives.{KeepsOwnNote, life_of}
-use Rattle.node_rules.specs.Readable.{IsSpelled, SpelledRecordsAreRead}
+use Rattle.node_rules.specs.Readable.{IsReadable, IsSpelled, SpelledRecordsAreRead}
 use Rattle.node_rules.proofs.Small.{state_of-lives, state-takes, state-signs, stored-takes, stored-signs}
 use Rattle.node_rules.proofs.OwnNote.{keeping, own-started, stored-lives}
 use Rattle.node_rules.proofs.Correctness.{first-good, index-left, takes_all}
 use Rattle.node_rules.proofs.Upholding.{none_some}
 use Rattle.node_rules.proofs.Forms.{AreFormed, formed-lives, formed-takes, formed-signs, next-body, epoch-note, epoch-accusation, some-first, formed-kit, stored-kit, inputs-formed}
 use Rattle.node_rules.proofs.Walks.{KeepsNode, walk-calls}
-use Rattle.node_rules.proofs.Readable.{sent-kept, told-sent}
+use Rattle.node_rules.proofs.Readable.{readable, sent-kept, told-sent}
 
 -- What a node is opened given is within its ranges.
-record IsOpened (s : Setting) : Type 0 where
-  some : 1 ≤ s.group.t
-  me : s.me < MEMBERS
-  few : s.group.t ≤ MAX_TOLERANCE
-  indexes : s.indexes < 2 ^ 64
-  lengths : (index : ℕ) (body : Body) → index < s.indexes → HasLength (s.signature index body)
+pub record IsOpened (s : Setting) : Type 0 where
+  pub some : 1 ≤ s.group.t
+  pub me : s.me < MEMBERS
+  pub few : s.group.t ≤ MAX_TOLERANCE
+  pub indexes : s.indexes < 2 ^ 64
+  pub lengths : (index : ℕ) (body : Body) → index < s.indexes → HasLength (s.signature index body)
 
-abbrev AreNotes : List NoteBody → Type 0
+abbrev pub AreNotes : List NoteBody → Type 0
 AreNotes notes = (x : NoteBody) → In notes x → IsBody (Note x)
 
-record Spelled (s : Setting) (n : Node) : Type 0 where
-  own : KeepsOwnNote s n
-  within : n.stored.next ≤ s.indexes
-  epoch : n.stored.epoch ≤ n.stored.next
-  notes : AreNotes (state_of s n).notes
-  held : AreFormed n.held
+pub record Spelled (s : Setting) (n : Node) : Type 0 where
+  pub own : KeepsOwnNote s n
+  pub within : n.stored.next ≤ s.indexes
+  pub epoch : n.stored.epoch ≤ n.stored.next
+  pub notes : AreNotes (state_of s n).notes
+  pub held : AreFormed n.held
 
 -- ---- notes
 
@@ -171,7 +171,7 @@ spelled-apart s n m lived stored held own h =
       held = rw held h.held;
     }
 
-keeping-spelled : (s : Setting) → IsOpened s → KeepsNode s IsSignedRecord (Spelled s)
+pub keeping-spelled : (s : Setting) → IsOpened s → KeepsNode s IsSignedRecord (Spelled s)
 keeping-spelled s is =
     record {
       taken = λ r c given fine h. spelled-takes s r c is.some given fine h;
@@ -195,7 +195,7 @@ notes-blank : (s : Setting) (nonces : ℕ → ℕ) (stored : Stored) → AreNote
 unfolding state_of
 notes-blank s nonces stored = λ x i. absurd i
 
-spelled-started : (s : Setting) (nonces : ℕ → ℕ) (certificates : List Record) (stored : Stored) → IsOpened s → IsSpelled s certificates stored → Spelled s (started s nonces certificates stored).node
+pub spelled-started : (s : Setting) (nonces : ℕ → ℕ) (certificates : List Record) (stored : Stored) → IsOpened s → IsSpelled s certificates stored → Spelled s (started s nonces certificates stored).node
 unfolding started
 spelled-started s nonces certificates stored is given =
     let c0 : Call = begun (blank s nonces stored) in
@@ -216,9 +216,12 @@ spelled-started s nonces certificates stored is given =
 
 -- ---- lives
 
+pub opened-spelled : (s : Setting) (certificates : List Record) (stored : Stored) → IsSpelled s certificates stored → IsOpened s
+opened-spelled s certificates stored given = record { some = given.rings.some; me = given.me; few = given.rings.few; indexes = given.indexes; lengths = given.lengths }
+
 pub spelled-read : SpelledRecordsAreRead
 spelled-read s nonces certificates stored inputs i given bytes last =
-    let is : IsOpened s = record { some = given.rings.some; me = given.me; few = given.rings.few; indexes = given.indexes; lengths = given.lengths } in
+    let is : IsOpened s = opened-spelled s certificates stored given in
     let n : Node = life_of s nonces certificates stored inputs in
     let h : Spelled s n = walk-calls s IsSignedRecord (Spelled s) (keeping-spelled s is) (started s nonces certificates stored).node inputs (inputs-formed inputs bytes) (spelled-started s nonces certificates stored is given) in
-    told-sent s n i (sent-kept s (Spelled s) n i (λ n k. k.held) is.me (keeping-spelled s is) last h)
+    told-sent (IsReadable s) s n i (sent-kept (IsReadable s) (Spelled s) s n i (λ m d k held. readable s m d is.me k.held held) (keeping-spelled s is) last h)

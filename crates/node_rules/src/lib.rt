@@ -12,7 +12,7 @@ ghost use Rattle.node_rules.specs.Outgoing.{LeavingSends, LeavingTells, TickSend
 ghost use Rattle.node_rules.specs.Stopping.{StoppedDeliveryEnds, StoppedVerdictsAreTold, StoppedTickEnds, StoppedLeavingEnds, OnlySignaturesStop, WholeCallsGoOn};
 ghost use Rattle.node_rules.specs.Sending.{SentIsTold, PingsBring, PongsBring, SummariesBring};
 ghost use Rattle.node_rules.specs.Told.{CallsTellNow, MomentsFit, StartsTellNow, CallsTellSendings};
-ghost use Rattle.node_rules.specs.Readable.{SentRecordsAreRead, SpelledRecordsAreRead, ToldRecordsAreRead};
+ghost use Rattle.node_rules.specs.Readable.{OwnRecordsVerify, SentRecordsAreRead, SpelledRecordsAreRead, ToldRecordsAreRead};
 ghost use Rattle.node_rules.specs.GoingOut.{OwnAccusationsGoOut};
 ghost use Rattle.node_rules.specs.Gaining.{LeavingIsLived, RecordsAreLived, TicksAreLived};
 ghost use Rattle.node_rules.specs.OnRings.{RingForIsLowest, NeighboursAreSuccessors, AccusedAreAddressed};
@@ -317,4 +317,10 @@ pub fn sent_records_are_read()
     ensures sent { SentRecordsAreRead }
     ensures told { ToldRecordsAreRead }
     ensures spelled { SpelledRecordsAreRead }
+{}
+
+/// Each own record that is read in a datagram which a whole call reports as sent verifies under the own key, as the first signature
+/// of it does; whatever other members' keys verify.
+pub fn own_records_verify()
+    ensures { OwnRecordsVerify }
 {}
