@@ -1,9 +1,11 @@
 -- Which lines are apart by their texts.
-use Rattle.std.proofs.Common.{◌≡◌, ◌≢◌, ℕ, zero, suc, ◌^◌, ◌<◌, Bool, true, false, ◌&&◌, List, [], ◌∷◌, ◌++◌, Option, Some, None, get_or, refl, sym, ap, ◌∙◌, append_assoc, arith}
-use Rattle.std.specs.Prelude.{codes, decimal}
+use Rattle.std.proofs.Common.{◌≡◌, ◌≢◌, ℕ, zero, suc, ◌+◌, ◌/◌, ◌%◌, ◌^◌, ◌<◌, Bool, true, false, cond, List, [], ◌∷◌, ◌++◌, Some, None, get_or, refl, sym, ap, ◌∙◌, append_assoc, arith, lt-ltb}
+use Rattle.std.specs.Prelude.{codes, decimal, ◌==◌}
 use Rattle.std.specs.Char.{is_ascii_digit}
+use Rattle.std.specs.Fmt.{digit_glyph, digits, digits_onto}
 use Rattle.std.specs.List.{list_all}
 use Rattle.std.proofs.lemmas.Bool.{and_parts}
+use Rattle.std.proofs.lemmas.Bool.Decides.{nat_tests}
 use Rattle.std.proofs.lemmas.Fmt.{decimal_injective}
 use Rattle.std.specs.Prelude.{Result, Ok}
 use Rattle.hex.specs.Hex.{IsBytes, decode_of, encode_lower}
@@ -13,8 +15,9 @@ use Rattle.journal.specs.declared.event.Event as journal
 use Rattle.journal.specs.declared.event.What as whats
 use Rattle.journal.specs.declared.event.What.TheVariants as told
 use Rattle.journal.specs.Texts.{event_text, what_text}
+use Rattle.node_rules.specs.Told.{is_of_call}
 use Rattle.turn_rules.specs.Courses.{datagram_in}
-use Rattle.audit_laws.specs.Apart.{EndsAreApart, IsSending, Sending, SendingsAreApart, TextsTellSendings, TurnsAreApart, TurnsAreNoEnds, sending_event}
+use Rattle.audit_laws.specs.Apart.{EndsAreApart, LossesAreApart, Sending, SendingsAreApart, TextsTellSendings, TurnsAreApart, TurnsAreNoEnds, sending_event}
 
 -- ---- by a byte
 
@@ -52,6 +55,47 @@ what-apart (told.Lost n) number to bytes none same = apart-at 0 _ (what_text (to
 what-apart (told.Got n) number to bytes none same = apart-at 0 _ (what_text (told.Sent number to bytes)) (λ is. omega (arith, is)) same
 what-apart told.Stopped number to bytes none same = apart-at 1 _ (what_text (told.Sent number to bytes)) (λ is. omega (arith, is)) same
 
+not-so : {A : Type 0} → false ≡ true → A
+not-so e = cc
+
+-- what a call tells is spelled otherwise than a loss
+lost-apart : (what : whats.What) (number : ℕ) → is_of_call what ≡ true → what_text what ≡ what_text (told.Lost number) → ⊥
+lost-apart (told.Lost n) number of same = not-so of
+lost-apart (told.Got n) number of same = not-so of
+lost-apart told.Stopped number of same = not-so of
+lost-apart what number of same = apart-at 0 (what_text what) (what_text (told.Lost number)) (λ is. omega (arith, is)) same
+
+-- ---- digits
+
+abbrev AreDigits : List ℕ → Type 0
+AreDigits xs = list_all is_ascii_digit xs ≡ true
+
+glyph-is : (d : ℕ) → d < 10 → digit_glyph false d ≡ 48 + d
+glyph-is d small = ap (λ (b : Bool). cond b (48 + d) (87 + d)) (lt-ltb d 10 small)
+
+glyph-digit : (d : ℕ) → d < 10 → is_ascii_digit (48 + d) ≡ true
+glyph-digit d small = grind (arith, nat_tests)
+
+either-way : (P : List ℕ → Type 0) (b : Bool) (xs ys : List ℕ) → P xs → P ys → P (cond b xs ys)
+either-way P true xs ys p q = p
+either-way P false xs ys p q = q
+
+digit-more : (d : ℕ) (xs : List ℕ) → is_ascii_digit d ≡ true → AreDigits xs → AreDigits (d ∷ xs)
+digit-more d xs one all = rw one all
+
+onto-digits : (k n : ℕ) (xs : List ℕ) → AreDigits xs → AreDigits (digits_onto k 10 false n xs)
+onto-digits zero n xs all = all
+onto-digits (suc k) n xs all =
+    let small : n % 10 < 10 = omega arith in
+    let d : ℕ = digit_glyph false (n % 10) in
+    let more : AreDigits (d ∷ xs) = digit-more d xs (ap is_ascii_digit (glyph-is (n % 10) small) ∙ glyph-digit (n % 10) small) all in
+    either-way AreDigits (n / 10 == 0) (d ∷ xs) (digits_onto k 10 false (n / 10) (d ∷ xs)) more (onto-digits k (n / 10) (d ∷ xs) more)
+
+-- The decimal digits of any number are digits.
+digits-any : (n : ℕ) → AreDigits (decimal n)
+unfolding digits
+digits-any n = onto-digits 64 n [] refl
+
 -- ---- behind the moment
 
 first-same : (x y : ℕ) (xs ys : List ℕ) → x ∷ xs ≡ y ∷ ys → x ≡ y
@@ -76,14 +120,17 @@ behind-at xs ys e = cc
 text-is : (e : journal.Event) → event_text e ≡ 97 ∷ 116 ∷ 32 ∷ decimal e.moment ++ 32 ∷ what_text e.what
 text-is e = ap (λ (xs : List ℕ). 97 ∷ 116 ∷ 32 ∷ xs) (append_assoc (decimal e.moment) (32 ∷ []) (what_text e.what))
 
-whats-same : (e f : journal.Event) → e.moment < 2 ^ 64 → f.moment < 2 ^ 64 → event_text e ≡ event_text f → what_text e.what ≡ what_text f.what
-whats-same e f first second same =
-    behind-space (decimal e.moment) (decimal f.moment) (what_text e.what) (what_text f.what) (digits_all e.moment first) (digits_all f.moment second)
+whats-same : (e f : journal.Event) → event_text e ≡ event_text f → what_text e.what ≡ what_text f.what
+whats-same e f same =
+    behind-space (decimal e.moment) (decimal f.moment) (what_text e.what) (what_text f.what) (digits-any e.moment) (digits-any f.moment)
     (behind-at (decimal e.moment ++ 32 ∷ what_text e.what) (decimal f.moment ++ 32 ∷ what_text f.what) (sym (text-is e) ∙ same ∙ text-is f))
 
 pub sendings-apart : SendingsAreApart
 sendings-apart e moment number to bytes first second none same =
-    what-apart e.what number to bytes none (whats-same e (record { moment = moment; what = told.Sent number to bytes }) first second same)
+    what-apart e.what number to bytes none (whats-same e (record { moment = moment; what = told.Sent number to bytes }) same)
+
+pub losses-apart : LossesAreApart
+losses-apart e moment number of same = lost-apart e.what number of (whats-same e (record { moment = moment; what = told.Lost number }) same)
 
 -- ---- datagrams
 
@@ -128,7 +175,7 @@ sendings-told x y of other same =
     let tail : List ℕ = decimal x.to ++ 32 ∷ encode_lower x.bytes in
     let other_tail : List ℕ = decimal y.to ++ 32 ∷ encode_lower y.bytes in
     let words : decimal x.number ++ 32 ∷ tail ≡ decimal y.number ++ 32 ∷ other_tail =
-    behind-word _ _ (sym (sent-is x.number x.to x.bytes) ∙ whats-same (sending_event x) (sending_event y) of.moment other.moment same ∙ sent-is y.number y.to y.bytes) in
+    behind-word _ _ (sym (sent-is x.number x.to x.bytes) ∙ whats-same (sending_event x) (sending_event y) same ∙ sent-is y.number y.to y.bytes) in
     let tails : tail ≡ other_tail = behind-space (decimal x.number) (decimal y.number) tail other_tail (digits_all x.number of.number) (digits_all y.number other.number) words in
     let moment : x.moment ≡ y.moment = moments-same (sending_event x) (sending_event y) of.moment other.moment same in
     let number : x.number ≡ y.number =

@@ -1,21 +1,17 @@
 -- What each thing that is learned rules out.
-use Rattle.std.proofs.Common.{◌≡◌, ℕ, zero, suc, ◌+◌, ◌^◌, ◌<◌, Bool, true, false, List, [], ◌∷◌, ◌++◌, length, Option, Some, None, ◌⊎◌, inl, inr, refl, sym, ap, ◌∙◌, subst, append_assoc, append-nil, arith}
+use Rattle.std.proofs.Common.{◌≡◌, ℕ, zero, suc, Bool, true, false, List, [], ◌∷◌, ◌++◌, length, Option, Some, None, ◌⊎◌, inl, inr, refl, sym, ap, ◌∙◌, append_assoc, append-nil}
 use Rattle.std.specs.Prelude.{replicate, unwrap_or}
 use Rattle.std.specs.List.{AllByRecursion, slice_get}
-use Rattle.hex.specs.Hex.{IsBytes}
 use Rattle.journal.specs.declared.turn.Turn.{Turn}
-use Rattle.records.specs.declared.Body.{Body}
-use Rattle.audit_rules.specs.declared.Head.{Head}
-use Rattle.audit_rules.specs.Heads.{MayBegin, own_length}
-use Rattle.audit_rules.specs.Shown.{IsSource, Source}
+use Rattle.audit_rules.specs.Heads.{own_length}
 use Rattle.audit_laws.specs.declared.Signed.{Signed}
 use Rattle.std.specs.Prelude.{◌==◌}
 use Rattle.std.proofs.Common.{cond, eq-eqb}
 use Rattle.std.proofs.lemmas.Bool.{and_from}
 use Rattle.audit_laws.specs.Bodies.{is_same_body}
 use Rattle.audit_laws.proofs.BodyLemmas.{same-itself}
-use Rattle.audit_laws.specs.Learned.{is_of, shown_of, AreOnce, AreShown, Extends, GoesOn, Learned, nothing_learned, source_of, with_fate, with_leaving, with_ping, with_signed, with_turn}
-use Rattle.audit_laws.specs.Learning.{FateIsLearned, FatesAreLearned, HasLeft, HasNext, IsToLeave, IsWithTurn, LeavingIsAdded, LeavingIsLearned, OneIsTheLeast, OneMayBegin, PingIsLearned, PingsAreLearned, SignaturesAreLearned, TurnsAreAdded, TurnsAreLearned}
+use Rattle.audit_laws.specs.Learned.{is_of, shown_of, AreOnce}
+use Rattle.audit_laws.specs.Learning.{FatesAreLearned, LeavingIsAdded, LeavingIsLearned, OneIsTheLeast, PingsAreLearned, SignaturesAreLearned, TurnsAreAdded, TurnsAreLearned}
 
 -- ---- one more in a list
 

@@ -1,11 +1,12 @@
 -- Which lines are apart by their texts.
-use Rattle.std.specs.Prelude.{◌≡◌, ℕ, ◌^◌, ◌<◌, List, None}
+use Rattle.std.specs.Prelude.{◌≡◌, ℕ, ◌^◌, ◌<◌, true, List, None}
 use Rattle.hex.specs.Hex.{IsBytes}
 use Rattle.journal.specs.declared.event.Event as journal
 use Rattle.journal.specs.declared.event.What.TheVariants as told
 use Rattle.journal.specs.declared.turn.Turn.{Turn}
 use Rattle.journal.specs.Texts.{event_text}
 use Rattle.journal.specs.Turns.{turn_text}
+use Rattle.node_rules.specs.Told.{is_of_call}
 use Rattle.turn_rules.specs.Courses.{datagram_in}
 use Rattle.turn_rules.specs.Journals.{end_text}
 
@@ -34,6 +35,10 @@ pub record IsSending (x : Sending) : Type 0 where
 -- One text reports one.
 abbrev pub TextsTellSendings : Type 0
 TextsTellSendings = (x y : Sending) → IsSending x → IsSending y → event_text (sending_event x) ≡ event_text (sending_event y) → x ≡ y
+
+-- What a call tells isn't spelled as the loss of a datagram.
+abbrev pub LossesAreApart : Type 0
+LossesAreApart = (e : journal.Event) (moment number : ℕ) → is_of_call e.what ≡ true → event_text e ≡ event_text (record { moment = moment; what = told.Lost number }) → ⊥
 
 -- The line of a turn is no event's, and neither is the last.
 abbrev pub TurnsAreApart : Type 0

@@ -1,5 +1,5 @@
 -- What each thing that is learned rules out.
-use Rattle.std.specs.Prelude.{◌≡◌, ℕ, Bool, true, false, List, [], ◌∷◌, ◌++◌, length}
+use Rattle.std.specs.Prelude.{◌≡◌, ℕ, Bool, true, false, List, [], ◌∷◌, length}
 use Rattle.journal.specs.declared.turn.Turn.{Turn}
 use Rattle.audit_rules.specs.declared.Head.{Head}
 use Rattle.audit_rules.specs.Heads.{MayBegin}

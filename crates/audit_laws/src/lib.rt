@@ -1,9 +1,9 @@
 //! Floor: audit. What is still to come of a journal whose lines so far have come, and how that unfolds line by line; and
-//! what lines have shown of a life that they leave open. The laws are the contracts of functions that do nothing. An audit
+//! what lines have shown of a life that they leave open. The laws are the contracts of functions that do nothing. `audit`
 //! proves by their lemmas that it judges each line as the definitions say.
 #![tactic(auto)]
 
-ghost use Rattle.audit_laws.specs.Apart.{SendingsAreApart, TextsTellSendings, TurnsAreApart, EndsAreApart, TurnsAreNoEnds};
+ghost use Rattle.audit_laws.specs.Apart.{SendingsAreApart, TextsTellSendings, LossesAreApart, TurnsAreApart, EndsAreApart, TurnsAreNoEnds};
 ghost use Rattle.audit_laws.specs.Bodies.{BodiesAreTested};
 ghost use Rattle.audit_laws.specs.Learning.{FatesAreLearned, PingsAreLearned, TurnsAreLearned, TurnsAreAdded, LeavingIsLearned, LeavingIsAdded, SignaturesAreLearned, OneIsTheLeast};
 ghost use Rattle.audit_laws.specs.Unfolding.{LossesComeFirst, NothingElseIsLost, OwedEventsCome, OwedDatagramsCome, TicksAreMade, TicksAreLeftOut, TurnsCome, LeavingComes, JournalsEnd, JournalsComeWhole};
@@ -66,6 +66,7 @@ pub fn one_is_the_least()
 pub fn lines_are_apart()
     ensures sendings { SendingsAreApart }
     ensures told { TextsTellSendings }
+    ensures losses { LossesAreApart }
     ensures turns { TurnsAreApart }
     ensures ends { EndsAreApart }
     ensures no_ends { TurnsAreNoEnds }

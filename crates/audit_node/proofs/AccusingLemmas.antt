@@ -1,5 +1,5 @@
 -- The first ring of which something is so.
-use Rattle.std.proofs.Common.{◌≡◌, ℕ, suc, zero, ◌+◌, ◌-◌, ◌<◌, Bool, true, false, cond, List, [], ◌∷◌, ◌++◌, Option, Some, None, refl, ap, sym, subst, inl, inr, ◌∙◌, arith}
+use Rattle.std.proofs.Common.{◌≡◌, ℕ, suc, zero, ◌+◌, ◌-◌, ◌<◌, Bool, true, false, cond, List, [], ◌∷◌, ◌++◌, Option, Some, None, refl, ap, sym, subst, ◌∙◌, arith}
 use Rattle.std.specs.Prelude.{filter, ◌&&◌, ◌||◌}
 use Rattle.std.specs.List.{list_any, range_with_len, slice_get}
 use Rattle.std.specs.Option.{option_map_or}
@@ -15,7 +15,7 @@ use Rattle.records.specs.declared.Body.TheVariants.{Accusation}
 use Rattle.journal.specs.declared.event.What.TheVariants as told
 use Rattle.node_rules.specs.Nodes.{Setting, Node, state_of}
 use Rattle.node_rules.specs.Calls.{Call, tells}
-use Rattle.node_rules.specs.Ticking.{is_by, has_accused, monitored_rings, ring_for as ring_of, accusation_on, wants_accusation, accuses, accuses_all}
+use Rattle.node_rules.specs.Ticking.{is_by, has_accused, monitored_rings, ring_for as ring_of, accusation_on, wants_accusation, accuses}
 use Rattle.journal.specs.declared.event.Event as journal
 use Rattle.audit_node.specs.Playing.{Kept, IsMirror, IsAt, Plays}
 use Rattle.audit_node.proofs.PlayLemmas.{setting-group, setting-me}

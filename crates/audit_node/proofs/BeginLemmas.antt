@@ -1,5 +1,5 @@
 -- How a life begins.
-use Rattle.std.proofs.Common.{arith, ◌≡◌, ℕ, zero, suc, ◌+◌, ◌≤◌, refl, ap, sym, ◌∙◌, subst, List, [], ◌∷◌, ◌++◌, length, true, false, Option, Some, None}
+use Rattle.std.proofs.Common.{arith, ◌≡◌, ℕ, zero, suc, ◌+◌, ◌≤◌, ◌<◌, refl, ap, sym, ◌∙◌, subst, List, [], ◌∷◌, length, true, false, Option, Some, None}
 use Rattle.std.specs.Prelude.{fold}
 use Rattle.std.specs.FinMap as fin
 use Rattle.std.specs.List.{list_any, AllByRecursion}
@@ -23,10 +23,9 @@ use Rattle.epoch_store.specs.declared.Stored.{Stored}
 use Rattle.signer.specs.Signing.{stored_after}
 use Rattle.validate.specs.Certified.{Certificates, certificate_of as kept_certificate}
 use Rattle.detector.specs.Silence.{opening}
-use Rattle.detector.specs.Kept.{DrawsFor}
+use Rattle.detector.specs.Kept.{StandsFor}
 use Rattle.record_slots.specs.Held.{key_cmp, held_under}
 use Rattle.audit_set.specs.declared.known.Known.{Known}
-use Rattle.audit_set.specs.declared.known.Known.TheVariants as knowns
 use Rattle.audit_set.specs.Sets.{HeldKnown}
 use Rattle.node_rules.specs.Nodes.{Setting, Node, state_of, event_of, certificate_of}
 use Rattle.node_rules.specs.Calls.{Call, begun, signs, takes}
@@ -38,13 +37,18 @@ use Rattle.node_rules.proofs.Small.{state-takes}
 use Rattle.audit_node.specs.declared.kit.Kit.{Kit}
 use Rattle.audit_node.specs.declared.starting.Ready.{Ready}
 use Rattle.audit_node.specs.declared.starting.Parts.{Parts}
-use Rattle.audit_node.specs.Begins.{HasOpened, IsSettingOf, MayBegin, kept_in, kept_by}
+use Rattle.audit_node.specs.Begins.{HasOpened, IsSettingOf, MayBegin, MaySign, kept_in, kept_by}
 use Rattle.audit_node.specs.Owing.{told_by}
 use Rattle.audit_node.specs.Rolls.{AreApart}
 use Rattle.audit_node.specs.Signatures.{with_stored}
 use Rattle.audit_node.specs.Told.{Tellings}
-use Rattle.audit_node.specs.Playing.{Kept, IsLong, IsMirror, IsAt, Plays, HoldsRecords, record_of, setting_with}
-use Rattle.audit_node.proofs.RollLemmas.{nil-end}
+use Rattle.audit_rules.specs.Heads.{setting_with}
+use Rattle.audit_node.specs.Playing.{Kept, IsSendable, IsMirror, IsAt, HoldsRecords, Signs, Tells, record_of}
+use Rattle.audit_node.proofs.PlayLemmas.{own-is}
+use Rattle.audit_node.proofs.SendableLemmas.{tells-none}
+use Rattle.records.specs.Spelling.{IsBody}
+use Rattle.node_rules.specs.Claims.{signer_of}
+use Rattle.ff_ids.specs.declared.TheConstants.{MEMBERS}
 
 pub started-is : (s : Setting) (nonces : ℕ → ℕ) (certificates : List Record) (stored : Stored) → started s nonces certificates stored ≡ signs s (first_note s stored) (opened s nonces certificates stored)
 unfolding started
@@ -82,7 +86,7 @@ is-setting kit = record { is = refl; long = λ i b. zeros-long kit.own_length }
 -- what stands behind what was owed before
 pub at-first : (s : Setting) (v : Kept) (c : Call) → IsMirror s v c.node → c.told ≡ [] → c.sent ≡ [] → v.telling.sent ≡ 0 → IsAt s (told_by s v.telling.events) v c
 at-first s v c is told sent none =
-    record { is = is; told = sym (ap (λ xs. told_by s v.telling.events ++ xs) told ∙ nil-end (told_by s v.telling.events)); sent = none ∙ sym (ap (λ (xs : List (ℕ × List ℕ)). length xs) sent) }
+    record { is = is; told = subst (Tells s (told_by s v.telling.events) v.telling.events) (sym told) (tells-none s v.telling.events); sent = none ∙ sym (ap (λ (xs : List (ℕ × List ℕ)). length xs) sent) }
 
 abbrev pub nothing_told : Tellings
 nothing_told = record { events = []; sent = 0; failed = false }
@@ -98,33 +102,33 @@ none-blank s nonces stored m = refl
 holds-none : (s : Setting) (set : HeldKnown) (nonces : ℕ → ℕ) (stored : Stored) → set ≡ fin.empty → HoldsRecords s set (blank s nonces stored).held
 holds-none s set nonces stored none = record {
   are = λ k. ap (λ (x : HeldKnown). option_map (record_of s) (held_under x k)) none ∙ ap (λ (o : Option Known). option_map (record_of s) o) (fin.get-empty key_cmp k);
-  long = λ k. subst (IsLong s) (sym (ap (λ (x : HeldKnown). held_under x k) none ∙ fin.get-empty key_cmp k)) tt;
+  sendable = λ k. subst (IsSendable s) (sym (ap (λ (x : HeldKnown). held_under x k) none ∙ fin.get-empty key_cmp k)) tt;
 }
 
 -- a life with nothing but what its store keeps
-pub at-opening : (s : Setting) (nonces : ℕ → ℕ) (v : Kept) → s ≡ setting_with v.group v.heal v.me v.authority v.indexes s.signature → ((i : ℕ) (b : Body) → length (s.signature i b) ≡ v.own_length)
+pub at-opening : (s : Setting) (nonces : ℕ → ℕ) (v : Kept) → s ≡ setting_with v.group v.heal v.me v.authority v.indexes s.signature → Signs s v.stored.next v.own_length
     → Holds v.membership (life_opening []) → v.records ≡ fin.empty → v.roster ≡ fin.empty
-    → DrawsFor v.detector (opening v.group nonces) → v.news ≡ [] → v.since ≡ v.stored.epoch + 1 → v.telling ≡ nothing_told → IsAt s [] v (begun (blank s nonces v.stored))
-at-opening s nonces v setting long holds records roster probes news since told =
+    → StandsFor v.detector (opening v.group nonces) → v.news ≡ [] → v.since ≡ v.stored.epoch + 1 → v.telling ≡ nothing_told → IsAt s [] v (begun (blank s nonces v.stored))
+at-opening s nonces v setting signs holds records roster probes news since told =
     record {
       is = record {
         setting = setting;
-        long = λ i b below. long i b;
+        signs = signs;
         holds = subst (Holds v.membership) (sym (state-blank s nonces v.stored)) holds;
         stored = refl;
         records = holds-none s v.records nonces v.stored records;
         roster = λ m. ap (λ (r : Certificates). kept_certificate r m) roster ∙ fin.get-empty nat_cmp m ∙ sym (none-blank s nonces v.stored m);
-        probes = subst (λ (g : Group). DrawsFor v.detector (opening g nonces)) (sym (group-of s v.group v.heal v.me v.authority v.indexes s.signature setting)) probes;
+        probes = subst (λ (g : Group). StandsFor v.detector (opening g nonces)) (sym (group-of s v.group v.heal v.me v.authority v.indexes s.signature setting)) probes;
         news = news;
         since = since;
       };
-      told = ap (λ (t : Tellings). told_by s t.events) told;
+      told = subst (λ (t : Tellings). Tells s [] t.events []) (sym told) (record { same = refl; fair = tt });
       sent = ap (λ (t : Tellings). t.sent) told;
     }
 
 -- it doesn't matter what was owed
 pub other-told : (s : Setting) (v : Kept) (n : Node) (t : Tellings) → IsMirror s v n → IsMirror s (record v { telling = t }) n
-other-told s v n t is = record { setting = is.setting; long = is.long; holds = is.holds; stored = is.stored; records = is.records; roster = is.roster; probes = is.probes; news = is.news; since = is.since }
+other-told s v n t is = record { setting = is.setting; signs = is.signs; holds = is.holds; stored = is.stored; records = is.records; roster = is.roster; probes = is.probes; news = is.news; since = is.since }
 
 -- ---- the first note is made
 
@@ -139,7 +143,7 @@ unfolding state_of certificate_of
 stored-is s v c b kept n state =
     record {
       setting = n.setting;
-      long = λ i body above. n.long i body (omega (arith, above, ap (λ (x : Stored). x.next) state, more-stored v.stored b));
+      signs = record { member = n.signs.member; length_is = n.signs.length_is; each = λ i body above. n.signs.each i body (omega (arith, above, ap (λ (x : Stored). x.next) state, more-stored v.stored b)) };
       holds = n.holds;
       stored = state ∙ ap (λ x. stored_after x b) n.stored;
       records = n.records;
@@ -155,18 +159,30 @@ first-is s kit setting =
     ap (λ (m : ℕ). Note (record { member = m; epoch = kit.stored.epoch + 1; mask = record { 0 = first_mask kit.group.t kit.stored.mask.0 } })) (sym (me-of s kit.group kit.heal kit.me kit.authority kit.indexes s.signature setting.is))
     ∙ ap (λ (g : Group). Note (record { member = s.me; epoch = kit.stored.epoch + 1; mask = record { 0 = first_mask g.t kit.stored.mask.0 } })) (sym (group-of s kit.group kit.heal kit.me kit.authority kit.indexes s.signature setting.is))
 
-pub may-begin : (s : Setting) (nonces : ℕ → ℕ) (certificates : List Record) (kit : Kit) (r : Ready) (p : Parts) → IsSettingOf s kit → HasOpened kit.group nonces certificates p
+-- The node of the setting may sign from each index on.
+pub signs-of : (s : Setting) (kit : Kit) → MaySign kit → IsSettingOf s kit → (next : ℕ) → Signs s next kit.own_length
+signs-of s kit may setting next =
+    record {
+      member = subst (λ (m : ℕ). m < MEMBERS) (sym (me-of s kit.group kit.heal kit.me kit.authority kit.indexes s.signature setting.is)) may.me;
+      length_is = may.own_length;
+      each = λ i b above. setting.long i b;
+    }
+
+pub may-begin : (s : Setting) (nonces : ℕ → ℕ) (certificates : List Record) (kit : Kit) (r : Ready) (p : Parts) → MaySign kit → IsSettingOf s kit → HasOpened kit.group nonces certificates p
     → ((t : Tellings) → record (kept_in kit p t) { stored = r.stored } ≡ kept_by r t) → r.stored ≡ stored_after kit.stored (Note r.note)
     → r.note ≡ record { member = kit.me; epoch = kit.stored.epoch + 1; mask = record { 0 = first_mask kit.group.t kit.stored.mask.0 } }
-    → r.own.index ≡ kit.stored.next → r.own.length ≡ kit.own_length → MayBegin s nonces certificates kit.stored r
-may-begin s nonces certificates kit r p setting has kept stored note index long =
-    let o = has s kit refl setting in
+    → r.own.index ≡ kit.stored.next → r.own.length ≡ kit.own_length → r.own.body ≡ Note r.note → IsBody (Note r.note) → MayBegin s nonces certificates kit.stored r
+may-begin s nonces certificates kit r p may setting has kept stored note index long body spelled =
+    let o = has s kit refl may setting in
+    let me : s.me ≡ kit.me = me-of s kit.group kit.heal kit.me kit.authority kit.indexes s.signature setting.is in
+    let signs : Signs s r.own.index r.own.length = subst (Signs s r.own.index) (sym long) (signs-of s kit may setting r.own.index) in
+    let by : signer_of r.own.body ≡ Some s.me = ap signer_of body ∙ ap (λ (n : NoteBody). Some n.member) note ∙ ap (λ (m : ℕ). Some m) (sym me) in
     let call = opened s nonces certificates kit.stored in
     record {
       is = λ t. subst (λ (x : Kept). IsMirror s x (with_stored (Note r.note) call).node) (kept t) (stored-is s (kept_in kit p t) call (Note r.note) r.stored (o.is t) stored);
       first = ap (λ (n : NoteBody). Note n) note ∙ first-is s kit setting;
       index = index ∙ ap (λ (x : Stored). x.next) (o.is nothing_told).stored;
-      long = long ∙ sym (setting.long r.own.index r.own.body);
+      sendable = own-is s r.own.index r.own signs (omega arith) (subst IsBody (sym body) spelled) by;
       told_none = o.told_none;
       sent_none = o.sent_none;
     }
@@ -177,11 +193,11 @@ certificates-all (r ∷ records) apart = ((apart.0.cert, apart.0.body), certific
 
 -- the node has joined its own life
 pub own-joined : (kit : Kit) (nonces : ℕ → ℕ) (certificates : List Record) (p : Parts)
-    → HasOpened kit.group nonces certificates p → AreApart certificates → list_any (λ r. is_certificate_for kit.me r.body) certificates ≡ true → has_joined p.roll.membership kit.me ≡ true
-own-joined kit nonces certificates p has apart own =
+    → MaySign kit → HasOpened kit.group nonces certificates p → AreApart certificates → list_any (λ r. is_certificate_for kit.me r.body) certificates ≡ true → has_joined p.roll.membership kit.me ≡ true
+own-joined kit nonces certificates p may has apart own =
     let s : Setting = some_setting kit in
     let is : IsSettingOf s kit = is-setting kit in
-    let o = has s kit refl is in
+    let o = has s kit refl may is in
     let who : s.me ≡ kit.me = me-of s kit.group kit.heal kit.me kit.authority kit.indexes s.signature is.is in
     let member = becomes_member s certificates (begun (blank s nonces kit.stored)) (certificates-all certificates apart) (subst (λ (m : ℕ). list_any (λ r. is_certificate_for m r.body) certificates ≡ true) (sym who) own) in
     sym ((o.is nothing_told).holds.at_number kit.me).member ∙ subst (λ (m : ℕ). is_member (state_of s (opened s nonces certificates kit.stored).node) m ≡ true) who member
@@ -197,9 +213,9 @@ no-notes s me (r ∷ records) c all h =
 
 -- and has no note in it yet
 pub own-unnoted : (kit : Kit) (nonces : ℕ → ℕ) (certificates : List Record) (p : Parts)
-    → HasOpened kit.group nonces certificates p → AreApart certificates → fin.get p.roll.membership.notes kit.me ≡ None
-own-unnoted kit nonces certificates p has apart =
+    → MaySign kit → HasOpened kit.group nonces certificates p → AreApart certificates → fin.get p.roll.membership.notes kit.me ≡ None
+own-unnoted kit nonces certificates p may has apart =
     let s : Setting = some_setting kit in
-    let o = has s kit refl (is-setting kit) in
+    let o = has s kit refl may (is-setting kit) in
     sym ((o.is nothing_told).holds.at_number kit.me).newest_note
     ∙ no-notes s kit.me certificates (begun (blank s nonces kit.stored)) (certificates-all certificates apart) (ap (λ (y : State). newest y.notes kit.me) (state-blank s nonces kit.stored))

@@ -1,5 +1,5 @@
 -- Which keys have a record, and what is given of these.
-use Rattle.std.proofs.Common.{◌≡◌, ◌≢◌, ℕ, zero, suc, ◌+◌, ◌<◌, true, false, List, [], ◌∷◌, ◌++◌, length, take, get_or, map, Option, Some, None, is_some, refl, ap, sym, ◌∙◌, arith}
+use Rattle.std.proofs.Common.{◌≡◌, ℕ, zero, suc, ◌+◌, ◌<◌, true, false, List, [], ◌∷◌, ◌++◌, length, take, get_or, map, Option, Some, None, is_some, refl, ap, sym, ◌∙◌}
 use Rattle.std.specs.Prelude.{IsSome}
 use Rattle.std.specs.FinMap.{contains_key}
 use Rattle.std.specs.List.{cons_option}

@@ -2,8 +2,7 @@
 use Rattle.std.proofs.Common.{zero, ◌≡◌, ◌≢◌, ℕ, ◌+◌, ◌<◌, ◌≤◌, Bool, true, false, not, cond, eqb, leb, List, [], ◌∷◌, ◌++◌, length, suc, Option, Some, None, refl, ap, sym, ◌∙◌, subst, arith, eq-eqb, Result, Ok, Err}
 use Rattle.std.proofs.lemmas.Bool.{false≢true, leb-false}
 use Rattle.std.proofs.lemmas.Bool.Decides.{nat_tests}
-use Rattle.std.specs.Prelude.{fold, All, take, IsErr, ◌&&◌, ◌||◌, ◌==◌, is_some, nat_lt}
-use Rattle.std.specs.List.{slice_get}
+use Rattle.std.specs.Prelude.{fold, All, take, ◌&&◌, ◌||◌, ◌==◌, is_some, nat_lt}
 use Rattle.std.specs.Option.{option_map}
 use Rattle.ff_ids.specs.declared.AccBody.{AccBody}
 use Rattle.ff_ids.specs.declared.Mask.{Mask}
@@ -24,9 +23,8 @@ use Rattle.journal.specs.declared.event.What.TheVariants as told
 use Rattle.node_rules.specs.Nodes.{Setting, Node, certificate_of}
 use Rattle.node_rules.specs.Refusals.{refusal, refusal_of}
 use Rattle.node_rules.specs.Calls.{Call, tells, takes, lives, wants}
-use Rattle.node_rules.specs.Deliveries.{answering_note, returning_note, may_rise, is_told, asked_with, gives_note, judged, handles, handles_all, hears}
+use Rattle.node_rules.specs.Deliveries.{answering_note, returning_note, may_rise, is_told, asked_with, gives_note, judged, handles, hears}
 use Rattle.datagram.specs.declared.Datagram.{Datagram}
-use Rattle.datagram.specs.declared.Datagram.TheVariants as kinds
 use Rattle.datagram.specs.Grammar.{GivesDatagram}
 use Rattle.records.specs.declared.fault.FormFault.{FormFault}
 use Rattle.records.specs.declared.fault.FormFault.TheVariants as forms
@@ -37,7 +35,6 @@ use Rattle.audit_node.specs.Signatures.{next_own}
 use Rattle.audit_node.specs.Returning.{asks_return}
 use Rattle.audit_node.proofs.PlayLemmas.{setting-group, setting-me}
 use Rattle.audit_node.proofs.ReturnLemmas.{and-off}
-use Rattle.audit_node.proofs.PlayLemmas.{plays-refused}
 
 -- ---- answers
 

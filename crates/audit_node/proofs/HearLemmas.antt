@@ -7,7 +7,7 @@ use Rattle.records.specs.declared.CertBody.{CertBody}
 use Rattle.validate.specs.Certified.{certificate_of as kept_certificate}
 use Rattle.datagram.specs.declared.Datagram.{Datagram}
 use Rattle.detector.specs.Silence.{History, counts, ponged}
-use Rattle.detector.specs.Kept.{Kept as Probing, DrawsFor}
+use Rattle.detector.specs.Kept.{Kept as Probing, StandsFor}
 use Rattle.journal.specs.declared.event.Event as journal
 use Rattle.journal.specs.declared.event.What.TheVariants as told
 use Rattle.node_rules.specs.Nodes.{Setting, Node, state_of, certificate_of, is_certified}
@@ -50,18 +50,24 @@ abbrev pub with_probes : History → Call → Call
 with_probes h c = record c { node = record c.node { probes = h } }
 
 pub probed-at : (s : Setting) (es : List journal.Event) (v : Kept) (c : Call) (d : Probing) (h : History)
-    → Plays s es v c → ((is : IsMirror s v c.node) → DrawsFor d h) → Plays s es (record v { detector = d }) (with_probes h c)
+    → Plays s es v c → ((is : IsMirror s v c.node) → StandsFor d h) → Plays s es (record v { detector = d }) (with_probes h c)
 unfolding state_of certificate_of
 probed-at s es v c d h p stands = record {
   at = λ fine.
       let at = p.at fine in
       let n = at.is in
       record {
-        is = record { setting = n.setting; long = n.long; holds = n.holds; stored = n.stored; records = n.records; roster = n.roster; probes = stands n; news = n.news; since = n.since };
+        is = record { setting = n.setting; signs = n.signs; holds = n.holds; stored = n.stored; records = n.records; roster = n.roster; probes = stands n; news = n.news; since = n.since };
         told = at.told;
         sent = at.sent;
       };
 }
+
+pub renonced-is : (s : Setting) (v : Kept) (n : Node) (h later : History) (d : Probing) → IsMirror s v (record n { probes = h }) → StandsFor d later
+    → IsMirror s (record v { detector = d }) (record n { probes = later })
+unfolding state_of certificate_of
+renonced-is s v n h later d is stands =
+    record { setting = is.setting; signs = is.signs; holds = is.holds; stored = is.stored; records = is.records; roster = is.roster; probes = stands; news = is.news; since = is.since }
 
 -- whatever the probes were
 pub grows-probed : (a b : Kept) (d : Probing) → Grows (record a { detector = d }) b → Grows a b

@@ -1,4 +1,7 @@
 pub mod TellingLemmas
+pub mod SendableLemmas
+pub mod UnpingedLemmas
+pub mod LearningLemmas
 pub mod StepLemmas
 pub mod NeighbourLemmas
 pub mod GrowthLemmas
@@ -18,3 +21,4 @@ pub mod CertificateLemmas
 pub mod BeginLemmas
 pub mod DeliverLemmas
 pub mod TickLemmas
+pub mod LengthLemmas

@@ -1,10 +1,9 @@
 -- A small step of the code is that of the definitions.
-use Rattle.std.proofs.Common.{◌≡◌, ℕ, ◌+◌, eqb, Bool, true, false, cond, List, [], ◌∷◌, ◌++◌, Option, Some, None, refl, ap, sym, ◌∙◌, subst, map, length, Result, Ok, Err, OnOk, OnErr}
+use Rattle.std.proofs.Common.{◌≡◌, ℕ, ◌≤◌, ◌+◌, eqb, Bool, true, false, cond, List, [], ◌∷◌, ◌++◌, Option, Some, None, refl, ap, sym, ◌∙◌, subst, map, length, Result, Ok, Err, OnOk, OnErr}
 use Rattle.std.specs.Prelude.{fold, is_some}
 use Rattle.std.specs.Option.{option_map, option_and_then}
 use Rattle.std.specs.Ordering.{eq_by_cmp, nat_cmp}
 use Rattle.std.specs.FinMap as fin
-use Rattle.std.proofs.lemmas.List.{append_assoc}
 use Rattle.std.proofs.Common.{arith}
 use Rattle.std.proofs.lemmas.Bool.Decides.{nat_tests}
 use Rattle.std.proofs.lemmas.Cmp.{nat_cmp_total}
@@ -33,7 +32,7 @@ use Rattle.audit_set.specs.declared.known.Known.TheVariants as knowns
 use Rattle.audit_set.specs.Knowns.{body_of}
 use Rattle.audit_set.specs.Sets.{HeldKnown}
 use Rattle.record_slots.proofs.KeyLemmas.{key_cmp_total}
-use Rattle.detector.specs.Kept.{DrawsFor}
+use Rattle.detector.specs.Kept.{StandsFor}
 use Rattle.journal.specs.declared.event.Event as journal
 use Rattle.node_rules.specs.Nodes.{Setting, Node, Holding, state_of, event_of, with_record, without, without_ended, moved, retires, without_removal, with_news, key_of_accusation, certificate_in, certificate_of}
 use Rattle.node_rules.specs.Calls.{Call, tells, lives, takes, told_of, sends, sends_to_all, spends, signs, signs_and_sends, own_record, wants, is_used_up}
@@ -42,10 +41,13 @@ use Rattle.signer.specs.Signing.{stored_after}
 use Rattle.epoch_store.specs.declared.Stored.{Stored}
 use Rattle.ff_ids.specs.declared.Mask.{Mask}
 use Rattle.datagram.specs.declared.Datagram.{Datagram}
-use Rattle.datagram.specs.Spelling.{datagram_bytes}
+use Rattle.datagram.specs.Spelling.{datagram_bytes, IsSignedRecord}
+use Rattle.records.specs.Spelling.{IsBody}
+use Rattle.node_rules.specs.Claims.{signer_of}
+use Rattle.node_rules.specs.Sending.{is_sent}
+use Rattle.audit_set.specs.declared.known.Unseen.{Unseen}
 use Rattle.journal.specs.declared.event.What as whats
 use Rattle.journal.specs.declared.event.What.TheVariants as told
-use Rattle.node_rules.specs.Nodes.{neighbours}
 use Rattle.ff_ids.specs.Masks.{ring_count}
 use Rattle.std.specs.List.{range_with_len}
 use Rattle.node_rules.proofs.Small.{state_of-lives}
@@ -59,8 +61,11 @@ use Rattle.audit_node.specs.Told.{Tellings, Adds, with_event, with_report, with_
 use Rattle.audit_node.specs.Records.{without_all, retired_all, ended_all}
 use Rattle.audit_node.specs.News.{keeps, heard_as_news, fresh_with, with_fresh}
 use Rattle.audit_node.specs.Signatures.{with_stored, next_own}
-use Rattle.audit_node.specs.Playing.{Kept, HoldsRecords, IsLong, record_of, setting_with, IsMirror, IsAt, Plays, Grows, with_known}
-use Rattle.audit_node.proofs.TellingLemmas.{front-refl, front-trans, nil-right, map-append, told-append, told-as, adds-refl}
+use Rattle.audit_rules.specs.Heads.{setting_with}
+use Rattle.audit_node.specs.Playing.{Kept, HoldsRecords, IsOwn, IsSendable, Signs, record_of, IsMirror, IsAt, Plays, Grows, Tells}
+use Rattle.audit_node.specs.Sendable.{IsFair}
+use Rattle.audit_node.proofs.SendableLemmas.{quiet-fair, report-fair, tells-more}
+use Rattle.audit_node.proofs.TellingLemmas.{nil-right, told-as, adds-refl}
 pub use Rattle.audit_node.proofs.StepLemmas.{Steps, note-steps, accusation-steps, tick-steps, join-steps}
 pub use Rattle.audit_node.proofs.NeighbourLemmas.{filter-same, addressees-are, filter-append, range-more, map-more, sends-more, listed_on, wanted_of}
 pub use Rattle.audit_node.proofs.GrowthLemmas.{grows-trans, grows-stored, grows-adds, grows-refl, grows-refused, plays-refused, from-fine}
@@ -74,25 +79,25 @@ cond-map : (s : Setting) (b : Bool) (x y : Option Known) → rec_of s (cond b x 
 cond-map s true x y = refl
 cond-map s false x y = refl
 
-long-cond : (s : Setting) (b : Bool) (x y : Option Known) → IsLong s x → IsLong s y → IsLong s (cond b x y)
-long-cond s true x y one other = one
-long-cond s false x y one other = other
+sendable-cond : (s : Setting) (b : Bool) (x y : Option Known) → IsSendable s x → IsSendable s y → IsSendable s (cond b x y)
+sendable-cond s true x y one other = one
+sendable-cond s false x y one other = other
 
 pub holds-remove : (s : Setting) (set : HeldKnown) (held : Holding) (k : RecordKey) → HoldsRecords s set held → HoldsRecords s (fin.remove set k) (without held k)
 holds-remove s set held k h = record {
   are = λ q. ap (rec_of s) (fin.get-remove key_cmp_total set k q) ∙ cond-map s (eq_by_cmp key_cmp q k) None (held_under set q) ∙ ap (λ x. cond (eq_by_cmp key_cmp q k) None x) (h.are q);
-  long = λ q. subst (IsLong s) (sym (fin.get-remove key_cmp_total set k q)) (long-cond s (eq_by_cmp key_cmp q k) None (held_under set q) tt (h.long q));
+  sendable = λ q. subst (IsSendable s) (sym (fin.get-remove key_cmp_total set k q)) (sendable-cond s (eq_by_cmp key_cmp q k) None (held_under set q) tt (h.sendable q));
 }
 
-holds-put : (s : Setting) (set : HeldKnown) (held : Holding) (k : RecordKey) (x : Known) → IsLong s (Some x) → HoldsRecords s set held → HoldsRecords s (fin.insert set k x) (λ q. cond (eq_by_cmp key_cmp q k) (Some (record_of s x)) (held q))
-holds-put s set held k x long h = record {
+holds-put : (s : Setting) (set : HeldKnown) (held : Holding) (k : RecordKey) (x : Known) → IsSendable s (Some x) → HoldsRecords s set held → HoldsRecords s (fin.insert set k x) (λ q. cond (eq_by_cmp key_cmp q k) (Some (record_of s x)) (held q))
+holds-put s set held k x can h = record {
   are = λ q. ap (rec_of s) (fin.get-insert key_cmp_total set k x q) ∙ cond-map s (eq_by_cmp key_cmp q k) (Some x) (held_under set q) ∙ ap (λ y. cond (eq_by_cmp key_cmp q k) (Some (record_of s x)) y) (h.are q);
-  long = λ q. subst (IsLong s) (sym (fin.get-insert key_cmp_total set k x q)) (long-cond s (eq_by_cmp key_cmp q k) (Some x) (held_under set q) long (h.long q));
+  sendable = λ q. subst (IsSendable s) (sym (fin.get-insert key_cmp_total set k x q)) (sendable-cond s (eq_by_cmp key_cmp q k) (Some x) (held_under set q) can (h.sendable q));
 }
 
-pub holds-insert : (s : Setting) (set : HeldKnown) (held : Holding) (x : Known) → IsLong s (Some x) → HoldsRecords s set held → HoldsRecords s (fin.insert set (key_of (body_of x)) x) (with_record (record_of s x) held)
-holds-insert s set held (knowns.Came c) long h = holds-put s set held (key_of c.rec.body) (knowns.Came c) long h
-holds-insert s set held (knowns.Own o) long h = holds-put s set held (key_of o.body) (knowns.Own o) long h
+pub holds-insert : (s : Setting) (set : HeldKnown) (held : Holding) (x : Known) → IsSendable s (Some x) → HoldsRecords s set held → HoldsRecords s (fin.insert set (key_of (body_of x)) x) (with_record (record_of s x) held)
+holds-insert s set held (knowns.Came c) can h = holds-put s set held (key_of c.rec.body) (knowns.Came c) can h
+holds-insert s set held (knowns.Own o) can h = holds-put s set held (key_of o.body) (knowns.Own o) can h
 
 pub holds-without : (s : Setting) (set : HeldKnown) (held : Holding) (ended : List AccBody) → HoldsRecords s set held → HoldsRecords s (without_all set ended) (fold without held (map key_of_accusation ended))
 holds-without s set held [] h = h
@@ -120,18 +125,18 @@ retired-under s set m ring q (Some c) =
     ∙ ap (λ x. cond (eq_by_cmp key_cmp q (keys.Removal m)) (Some (record_of s c)) x)
     (ap (rec_of s) (fin.get-remove key_cmp_total set (keys.Accusation m ring) q) ∙ cond-map s (eq_by_cmp key_cmp q (keys.Accusation m ring)) None (held_under set q))
 
-long-retired : (s : Setting) (set : HeldKnown) (m : ℕ) (ring : RingNo) (q : RecordKey) (o : Option Known) → IsLong s o → ((k : RecordKey) → IsLong s (held_under set k))
-    → IsLong s (fin.get (with_option (fin.remove set (keys.Accusation m ring)) (keys.Removal m) o) q)
-long-retired s set m ring q None one h =
+sendable-retired : (s : Setting) (set : HeldKnown) (m : ℕ) (ring : RingNo) (q : RecordKey) (o : Option Known) → IsSendable s o → ((k : RecordKey) → IsSendable s (held_under set k))
+    → IsSendable s (fin.get (with_option (fin.remove set (keys.Accusation m ring)) (keys.Removal m) o) q)
+sendable-retired s set m ring q None one h =
     let left : HeldKnown = fin.remove set (keys.Accusation m ring) in
-    subst (IsLong s) (sym (fin.get-remove key_cmp_total left (keys.Removal m) q))
-    (long-cond s (eq_by_cmp key_cmp q (keys.Removal m)) None (held_under left q) tt
-    (subst (IsLong s) (sym (fin.get-remove key_cmp_total set (keys.Accusation m ring) q)) (long-cond s (eq_by_cmp key_cmp q (keys.Accusation m ring)) None (held_under set q) tt (h q))))
-long-retired s set m ring q (Some c) one h =
+    subst (IsSendable s) (sym (fin.get-remove key_cmp_total left (keys.Removal m) q))
+    (sendable-cond s (eq_by_cmp key_cmp q (keys.Removal m)) None (held_under left q) tt
+    (subst (IsSendable s) (sym (fin.get-remove key_cmp_total set (keys.Accusation m ring) q)) (sendable-cond s (eq_by_cmp key_cmp q (keys.Accusation m ring)) None (held_under set q) tt (h q))))
+sendable-retired s set m ring q (Some c) one h =
     let left : HeldKnown = fin.remove set (keys.Accusation m ring) in
-    subst (IsLong s) (sym (fin.get-insert key_cmp_total left (keys.Removal m) c q))
-    (long-cond s (eq_by_cmp key_cmp q (keys.Removal m)) (Some c) (held_under left q) one
-    (subst (IsLong s) (sym (fin.get-remove key_cmp_total set (keys.Accusation m ring) q)) (long-cond s (eq_by_cmp key_cmp q (keys.Accusation m ring)) None (held_under set q) tt (h q))))
+    subst (IsSendable s) (sym (fin.get-insert key_cmp_total left (keys.Removal m) c q))
+    (sendable-cond s (eq_by_cmp key_cmp q (keys.Removal m)) (Some c) (held_under left q) one
+    (subst (IsSendable s) (sym (fin.get-remove key_cmp_total set (keys.Accusation m ring) q)) (sendable-cond s (eq_by_cmp key_cmp q (keys.Accusation m ring)) None (held_under set q) tt (h q))))
 
 apart-keys : (m : ℕ) (ring : RingNo) (x y : Option Record) (q : RecordKey)
     → cond (eq_by_cmp key_cmp q (keys.Removal m)) x (cond (eq_by_cmp key_cmp q (keys.Accusation m ring)) None y)
@@ -152,7 +157,7 @@ holds-moved s set held a h =
           (h.are here)
           ∙ ap (λ y. cond (eq_by_cmp key_cmp q (keys.Removal a.accused)) (held here) (cond (eq_by_cmp key_cmp q here) None y)) (h.are q)
           ∙ apart-keys a.accused a.ring (held here) (held q) q;
-      long = λ q. long-retired s set a.accused a.ring q (held_under set here) (h.long here) h.long;
+      sendable = λ q. sendable-retired s set a.accused a.ring q (held_under set here) (h.sendable here) h.sendable;
     }
 
 holds-moved_all : (s : Setting) (set : HeldKnown) (held : Holding) (ended : List AccBody) → HoldsRecords s set held
@@ -163,7 +168,7 @@ holds-moved_all s set held (a ∷ ended) h =
 
 -- where the same is held
 holds-same : (s : Setting) (set : HeldKnown) (held later : Holding) → ((q : RecordKey) → held q ≡ later q) → HoldsRecords s set held → HoldsRecords s set later
-holds-same s set held later same h = record { are = λ q. h.are q ∙ same q; long = h.long }
+holds-same s set held later same h = record { are = λ q. h.are q ∙ same q; sendable = h.sendable }
 
 pub holds-ended : (s : Setting) (heal : Option Heal) (set : HeldKnown) (held : Holding) (r : Report) → HoldsRecords s set held
     → HoldsRecords s (without_all (ended_all heal set r.expired) r.fell) (without_ended r (retires heal r held))
@@ -239,7 +244,7 @@ since-lives s e c = refl
 
 -- What a step reports is what the call reports of it.
 lives-told : (s : Setting) (es : List journal.Event) (v : Kept) (c : Call) (e : Event) (life : Life) (r : Report)
-    → IsAt s es v c → Steps v.group e v.membership life r → told_by s (v.telling.events ++ map owed_as (told_of life.moment r)) ≡ es ++ (lives s e c).told
+    → IsAt s es v c → Steps v.group e v.membership life r → Tells s es (v.telling.events ++ map owed_as (told_of life.moment r)) (lives s e c).told
 lives-told s es v c e life r h steps =
     let n = h.is in
     let g : s.group ≡ v.group = setting-group s v c.node n in
@@ -247,10 +252,11 @@ lives-told s es v c e life r h steps =
     let next : Holds life (step s.group st e).state = subst (λ x. Holds life (step x st e).state) (sym g) (steps.holds st n.holds) in
     let reported : r ≡ (step s.group st e).report = steps.reports st n.holds ∙ ap (λ x. (step x st e).report) (sym g) in
     let moment : life.moment ≡ (step s.group st e).state.moment = sym next.moment_same in
-    told-append s v.telling.events (map owed_as (told_of life.moment r))
-    ∙ ap (λ (xs : List journal.Event). told_by s v.telling.events ++ xs) (told-as s (told_of life.moment r))
-    ∙ ap (λ (xs : List journal.Event). xs ++ told_of life.moment r) h.told ∙ append_assoc es c.told (told_of life.moment r)
-    ∙ ap (λ (xs : List journal.Event). es ++ (c.told ++ xs)) (ap (λ m. told_of m r) moment ∙ ap (told_of (step s.group st e).state.moment) reported) ∙ ap (λ (xs : List journal.Event). es ++ xs) (sym (told-lives s e c))
+    let told : List journal.Event = told_of (step s.group st e).state.moment (step s.group st e).report in
+    let same : told_by s (map owed_as (told_of life.moment r)) ≡ told =
+    told-as s (told_of life.moment r) ∙ ap (λ m. told_of m r) moment ∙ ap (told_of (step s.group st e).state.moment) reported in
+    subst (Tells s es (v.telling.events ++ map owed_as (told_of life.moment r))) (sym (told-lives s e c))
+    (tells-more s es v.telling.events c.told (map owed_as (told_of life.moment r)) told h.told same (report-fair s life.moment r))
 
 -- The code makes this step, with what it reports.
 pub lives-at : (s : Setting) (es : List journal.Event) (v : Kept) (c : Call) (e : Event) (life : Life) (records : HeldKnown) (t : Tellings) (r : Report)
@@ -274,16 +280,16 @@ lives-at s es v c e life records t r p steps kept told fine =
     record {
       is = record {
         setting = n.setting;
-        long = n.long;
+        signs = n.signs;
         holds = subst (λ x. Holds life x) (sym (state_of-lives s e c)) next;
         stored = n.stored ∙ sym (kept-lives s e c).0;
         records = ended;
         roster = λ m. n.roster m ∙ sym (certificate-lives s e c m);
-        probes = subst (DrawsFor v.detector) (sym (kept-lives s e c).1) n.probes;
+        probes = subst (StandsFor v.detector) (sym (kept-lives s e c).1) n.probes;
         news = n.news ∙ sym (news-lives s e c);
         since = n.since ∙ sym (since-lives s e c);
       };
-      told = ap (λ (x : Tellings). told_by s x.events) on.1 ∙ lives-told s es v c e life r h steps;
+      told = subst (λ (x : Tellings). Tells s es x.events (lives s e c).told) (sym on.1) (lives-told s es v c e life r h steps);
       sent = ap (λ (x : Tellings). x.sent) on.1 ∙ h.sent ∙ ap (λ (xs : List (ℕ × List ℕ)). length xs) (sym (sent-lives s e c));
     }
 
@@ -296,18 +302,20 @@ lives-plays s es v c e life records t r p steps kept told =
 
 -- an event that the node reports
 pub tells-plays : (s : Setting) (es : List journal.Event) (v : Kept) (c : Call) (what : whats.What) (moment : ℕ) (t : Tellings)
-    → Plays s es v c → moment ≡ v.membership.moment → Adds (with_event moment what) v.telling t → Plays s es (record v { telling = t }) (tells s what c)
-tells-plays s es v c what moment t p now adds =
+    → Plays s es v c → moment ≡ v.membership.moment → is_sent what ≡ false → Adds (with_event moment what) v.telling t → Plays s es (record v { telling = t }) (tells s what c)
+tells-plays s es v c what moment t p now unsent adds =
     let event : ℕ → journal.Event = λ m. record { moment = m; what = what } in
-    let is = λ (h : IsAt s es v c). told-append s v.telling.events (owed_as (event moment) ∷ []) ∙ ap (λ (xs : List journal.Event). xs ++ event moment ∷ []) h.told ∙ append_assoc es c.told (event moment ∷ []) ∙ ap (λ m. es ++ (c.told ++ event m ∷ [])) (now ∙ sym h.is.holds.moment_same) in
+    let told : IsAt s es v c → Tells s es (v.telling.events ++ owed_as (event moment) ∷ []) (tells s what c).told =
+    λ h. tells-more s es v.telling.events c.told (owed_as (event moment) ∷ []) (event (state_of s c.node).moment ∷ []) h.told
+    (ap (λ m. event m ∷ []) (now ∙ sym h.is.holds.moment_same)) (quiet-fair s what unsent, tt) in
     record {
       at = λ fine.
           let on = adds.going fine in
           let h = p.at on.0 in
           let n = h.is in
           record {
-            is = record { setting = n.setting; long = n.long; holds = n.holds; stored = n.stored; records = n.records; roster = n.roster; probes = n.probes; news = n.news; since = n.since };
-            told = ap (λ (x : Tellings). told_by s x.events) on.1 ∙ is h;
+            is = record { setting = n.setting; signs = n.signs; holds = n.holds; stored = n.stored; records = n.records; roster = n.roster; probes = n.probes; news = n.news; since = n.since };
+            told = subst (λ (x : Tellings). Tells s es x.events (tells s what c).told) (sym on.1) (told h);
             sent = ap (λ (x : Tellings). x.sent) on.1 ∙ h.sent;
           };
     }
@@ -383,7 +391,7 @@ ending-at s es v c b h =
     record {
       is = record {
         setting = n.setting;
-        long = n.long;
+        signs = n.signs;
         holds = subst (Holds v.membership) (sym (state-ending s b c)) n.holds;
         stored = n.stored;
         records = holds-unremoved s b v.records c.node.held n.records;
@@ -398,14 +406,14 @@ ending-at s es v c b h =
 
 -- a note or an accusation is held
 pub holding-at : (s : Setting) (es : List journal.Event) (v : Kept) (c : Call) (known : Known) (b : Body) (records : HeldKnown)
-    → (record_of s known).body ≡ b → IsNoCertificate b → IsLong s (Some known) → records ≡ fin.insert v.records (key_of (body_of known)) known → IsAt s es v c → IsAt s es (record v { records = records }) (holding (record_of s known) c)
+    → (record_of s known).body ≡ b → IsNoCertificate b → IsSendable s (Some known) → records ≡ fin.insert v.records (key_of (body_of known)) known → IsAt s es v c → IsAt s es (record v { records = records }) (holding (record_of s known) c)
 holding-at s es v c known b records is other long kept h =
     let n = h.is in
     let r : Record = record_of s known in
     record {
       is = record {
         setting = n.setting;
-        long = n.long;
+        signs = n.signs;
         holds = subst (Holds v.membership) (sym (state-holding s r c)) n.holds;
         stored = n.stored;
         records = subst (λ x. HoldsRecords s x (with_record r c.node.held)) (sym kept) (holds-insert s v.records c.node.held known long n.records);
@@ -425,7 +433,7 @@ says-same s (knowns.Own o) = refl
 
 pub keeps-at : (s : Setting) (es : List journal.Event) (v : Kept) (c : Call) (known : Known)
     (b : Body) (records : HeldKnown)
-    → body_of known ≡ b → IsNoCertificate b → IsLong s (Some known) → records ≡ fin.insert (unremoved b v.records) (key_of (body_of known)) known
+    → body_of known ≡ b → IsNoCertificate b → IsSendable s (Some known) → records ≡ fin.insert (unremoved b v.records) (key_of (body_of known)) known
     → IsAt s es v (lives s (event_of s b) c) → IsAt s es (record v { records = records }) (keeps s (record_of s known) c)
 keeps-at s es v c known b records is other long kept h =
     let c1 : Call = lives s (event_of s b) c in
@@ -436,7 +444,7 @@ keeps-at s es v c known b records is other long kept h =
 -- a note is held
 pub keeps-plays : (s : Setting) (es : List journal.Event) (v : Kept) (c : Call) (known : Known)
     (b : Body) (records : HeldKnown)
-    → body_of known ≡ b → IsNoCertificate b → IsLong s (Some known) → records ≡ fin.insert (unremoved b v.records) (key_of (body_of known)) known
+    → body_of known ≡ b → IsNoCertificate b → IsSendable s (Some known) → records ≡ fin.insert (unremoved b v.records) (key_of (body_of known)) known
     → Plays s es v (lives s (event_of s b) c) → Plays s es (record v { records = records }) (keeps s (record_of s known) c)
 keeps-plays s es v c known b records is other long kept p = record {
   at = λ fine. keeps-at s es v c known b records is other long kept (p.at fine);
@@ -463,7 +471,7 @@ fresh-plays s es v c k news is p = record {
       record {
         is = record {
           setting = n.setting;
-          long = n.long;
+          signs = n.signs;
           holds = subst (Holds v.membership) (sym (state-fresh s k c)) n.holds;
           stored = n.stored;
           records = n.records;
@@ -523,19 +531,19 @@ certificate-held r c x m is =
     ap (λ b. option_and_then (λ y. certificate_in y.body) (cond b (Some r) (c.node.held (keys.Certificate m)))) at ∙ certificate-cond (eq_by_cmp nat_cmp m x.member) r (c.node.held (keys.Certificate m)) x is
 
 pub certified-at : (s : Setting) (es : List journal.Event) (v : Kept) (c : Call) (checked : CheckedRecord) (x : CertBody) (records : HeldKnown) (roster : Certificates)
-    → checked.rec.body ≡ Certificate x → records ≡ fin.insert v.records (key_of checked.rec.body) (knowns.Came checked) → roster ≡ fin.insert v.roster x.member x
+    → checked.rec.body ≡ Certificate x → IsSignedRecord checked.rec → records ≡ fin.insert v.records (key_of checked.rec.body) (knowns.Came checked) → roster ≡ fin.insert v.roster x.member x
     → IsAt s es v (lives s (Joins x.member (s.places x.member)) c) → IsAt s es (record v { records = records; roster = roster }) (takes s checked.rec c)
-certified-at s es v c checked x records roster is kept listed h =
+certified-at s es v c checked x records roster is spelled kept listed h =
     let n = h.is in
     let c1 : Call = lives s (Joins x.member (s.places x.member)) c in
     let at : IsAt s es (record v { records = records; roster = roster }) (holding checked.rec c1) =
     record {
       is = record {
         setting = n.setting;
-        long = n.long;
+        signs = n.signs;
         holds = subst (Holds v.membership) (sym (state-holding s checked.rec c1)) n.holds;
         stored = n.stored;
-        records = subst (λ y. HoldsRecords s y (with_record checked.rec c1.node.held)) (sym kept) (holds-insert s v.records c1.node.held (knowns.Came checked) tt n.records);
+        records = subst (λ y. HoldsRecords s y (with_record checked.rec c1.node.held)) (sym kept) (holds-insert s v.records c1.node.held (knowns.Came checked) spelled n.records);
         roster = λ m. ap (λ y. kept_certificate y m) listed ∙ fin.get-insert nat_cmp_total v.roster x.member x m ∙ ap (λ o. cond (eq_by_cmp nat_cmp m x.member) (Some x) o) (n.roster m) ∙ sym (certificate-held checked.rec c1 x m is);
         probes = n.probes;
         news = n.news;
@@ -567,18 +575,16 @@ length-append (x ∷ xs) ys = omega (arith, length-append xs ys)
 
 -- What is owed is what the call reports.
 is-sent : (s : Setting) (es : List journal.Event) (v : Kept) (c : Call) (d : Datagram) (to moment : ℕ) (owed : ℕ → Owed)
-    → IsAt s es v c → ((k : ℕ) → what_of s (owed k) ≡ told.Sent k to (datagram_bytes d)) → moment ≡ v.membership.moment → told_by s (with_sent moment owed v.telling).events ≡ es ++ (sends s d c to).told
+    → IsAt s es v c → ((k : ℕ) → what_of s (owed k) ≡ told.Sent k to (datagram_bytes d)) → ((k : ℕ) → IsFair s (owed k)) → moment ≡ v.membership.moment → Tells s es (with_sent moment owed v.telling).events (sends s d c to).told
 unfolding sends
-is-sent s es v c d to moment owed h spelled now =
+is-sent s es v c d to moment owed h spelled fair now =
     let n = h.is in
     let at : moment ≡ (state_of s c.node).moment = now ∙ sym n.holds.moment_same in
     let event : ℕ → ℕ → journal.Event = λ m k. record { moment = m; what = told.Sent k to (datagram_bytes d) } in
     let one : reported s (record { moment = moment; owed = owed v.telling.sent }) ≡ event (state_of s c.node).moment (length c.sent) =
     ap (λ (w : whats.What). record { moment = moment; what = w }) (spelled v.telling.sent) ∙ ap (λ m. event m v.telling.sent) at ∙ ap (event (state_of s c.node).moment) h.sent in
-    told-append s v.telling.events (record { moment = moment; owed = owed v.telling.sent } ∷ [])
-    ∙ ap (λ (e : journal.Event). told_by s v.telling.events ++ e ∷ []) one
-    ∙ ap (λ (xs : List journal.Event). xs ++ event (state_of s c.node).moment (length c.sent) ∷ []) h.told
-    ∙ append_assoc es c.told (event (state_of s c.node).moment (length c.sent) ∷ [])
+    tells-more s es v.telling.events c.told (record { moment = moment; owed = owed v.telling.sent } ∷ []) (event (state_of s c.node).moment (length c.sent) ∷ []) h.told
+    (ap (λ (e : journal.Event). e ∷ []) one) (fair v.telling.sent, tt)
 
 count-sent : (s : Setting) (d : Datagram) (c : Call) (to : ℕ) → length (sends s d c to).sent ≡ length c.sent + 1
 unfolding sends
@@ -589,8 +595,8 @@ unfolding sends
 node-sends s d c to = refl
 
 pub sends-plays : (s : Setting) (es : List journal.Event) (v : Kept) (c : Call) (d : Datagram) (to moment : ℕ) (owed : ℕ → Owed) (t : Tellings)
-    → Plays s es v c → ((k : ℕ) → what_of s (owed k) ≡ told.Sent k to (datagram_bytes d)) → moment ≡ v.membership.moment → Adds (with_sent moment owed) v.telling t → Plays s es (record v { telling = t }) (sends s d c to)
-sends-plays s es v c d to moment owed t p spelled now adds =
+    → Plays s es v c → ((k : ℕ) → what_of s (owed k) ≡ told.Sent k to (datagram_bytes d)) → ((k : ℕ) → IsFair s (owed k)) → moment ≡ v.membership.moment → Adds (with_sent moment owed) v.telling t → Plays s es (record v { telling = t }) (sends s d c to)
+sends-plays s es v c d to moment owed t p spelled fair now adds =
     let w : Kept = record v { telling = t } in
     record {
       at = λ fine.
@@ -598,13 +604,15 @@ sends-plays s es v c d to moment owed t p spelled now adds =
           let h = p.at on.0 in
           let n = h.is in
           let is : IsMirror s w c.node =
-          record { setting = n.setting; long = n.long; holds = n.holds; stored = n.stored; records = n.records; roster = n.roster; probes = n.probes; news = n.news; since = n.since } in
+          record { setting = n.setting; signs = n.signs; holds = n.holds; stored = n.stored; records = n.records; roster = n.roster; probes = n.probes; news = n.news; since = n.since } in
           record {
             is = subst (IsMirror s w) (sym (node-sends s d c to)) is;
-            told = ap (λ (x : Tellings). told_by s x.events) on.1 ∙ is-sent s es v c d to moment owed h spelled now;
+            told = subst (λ (x : Tellings). Tells s es x.events (sends s d c to).told) (sym on.1) (is-sent s es v c d to moment owed h spelled fair now);
             sent = ap (λ (x : Tellings). x.sent) on.1 ∙ ap (λ (k : ℕ). k + 1) h.sent ∙ sym (count-sent s d c to);
           };
     }
+
+-- ---- neighbours
 
 -- the list of all that are wanted is that of the addressees
 pub all-wanted : (s : Setting) (v : Kept) (n : Node) (also : Option ℕ) (listed : List (Option ℕ)) → IsMirror s v n → v.membership.group ≡ v.group
@@ -620,6 +628,17 @@ all-wanted s v n also listed is same h =
     ap (λ xs. wanted_of xs MEMBERS) these ∙ addressees-are s st also
 
 -- ---- signatures
+
+-- The own record of this index can be sent.
+pub own-is : (s : Setting) (next : ℕ) (o : Unseen) → Signs s next o.length → next ≤ o.index → IsBody o.body → signer_of o.body ≡ Some s.me → IsOwn s o
+own-is s next o signs above spelled by =
+    let long : length (s.signature o.index o.body) ≡ o.length = signs.each o.index o.body above in
+    record {
+      member = signs.member;
+      by = by;
+      spelled = record { body = spelled; signature = record { some = omega (arith, long, signs.length_is.some); few = omega (arith, long, signs.length_is.few) } };
+      long = sym long;
+    }
 
 pub spends-is : (s : Setting) (b : Body) (c : Call) → spends s b c ≡ tells s (told.Spent c.node.stored.next b) (with_stored b c)
 unfolding state_of
@@ -682,7 +701,7 @@ stored-at s es v c b kept p state = record {
       record {
         is = record {
           setting = n.setting;
-          long = λ i body above. n.long i body (omega (arith, above, ap (λ (x : Stored). x.next) state, one-more v.stored b));
+          signs = record { member = n.signs.member; length_is = n.signs.length_is; each = λ i body above. n.signs.each i body (omega (arith, above, ap (λ (x : Stored). x.next) state, one-more v.stored b)) };
           holds = n.holds;
           stored = state ∙ ap (λ x. stored_after x b) n.stored;
           records = n.records;
@@ -725,15 +744,17 @@ used_up-at s es v v1 c b also next p at last grows q =
 -- the record was made
 pub signed-at : (s : Setting) (es : List journal.Event) (v v1 : Kept) (c : Call) (b wanted : Body) (also : Option ℕ) (kept : Stored) (index : ℕ)
     → Plays s es v c → eqb index v.indexes ≡ false → index ≡ v.stored.next → (IsMirror s v c.node → b ≡ wanted)
-    → kept ≡ stored_after v.stored b → Grows (record v { stored = kept }) v1
-    → (Plays s es (record v { stored = kept }) (with_stored b c) → index ≡ c.node.stored.next → v.own_length ≡ length (s.signature index b) → Plays s es v1 (signs_and_sends s b (addressees s also) c))
+    → kept ≡ stored_after v.stored b → IsBody b → signer_of b ≡ Some v.me → Grows (record v { stored = kept }) v1
+    → (Plays s es (record v { stored = kept }) (with_stored b c) → index ≡ c.node.stored.next → IsOwn s (record { index = index; body = b; length = v.own_length }) → Plays s es v1 (signs_and_sends s b (addressees s also) c))
     → Plays s es v1 (wants true s wanted (addressees s also) c)
-signed-at s es v v1 c b wanted also kept index p left at body state grows passes =
+signed-at s es v v1 c b wanted also kept index p left at body state spelled by grows passes =
     from-fine s es v v1 c (wants true s wanted (addressees s also) c) p (grows-stored v v1 kept grows) (λ h.
     let n = h.is in
     let free : is_used_up s c.node ≡ false = used-up-is s v c.node n ∙ ap (λ (k : ℕ). eqb k v.indexes) (sym at) ∙ left in
     let next : index ≡ c.node.stored.next = at ∙ ap (λ (x : Stored). x.next) n.stored in
-    let done = passes (stored-at s es v c b kept p state) next (sym (n.long index b (omega (arith, at)))) in
+    let own : IsOwn s (record { index = index; body = b; length = v.own_length }) =
+    own-is s v.stored.next (record { index = index; body = b; length = v.own_length }) n.signs (omega (arith, at)) spelled (by ∙ ap (λ (m : ℕ). Some m) (sym (setting-me s v c.node n))) in
+    let done = passes (stored-at s es v c b kept p state) next own in
     subst (Plays s es v1) (sym (wants-signed s b also c free) ∙ ap (λ x. wants true s x (addressees s also) c) (body n)) done)
 
 pub next-own-is : (s : Setting) (v : Kept) (n : Node) (mask : Mask) → IsMirror s v n → Note (record { member = v.me; epoch = v.stored.epoch + 1; mask = mask }) ≡ next_own s n mask

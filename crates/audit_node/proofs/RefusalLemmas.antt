@@ -7,7 +7,8 @@ use Rattle.records.specs.declared.keys.Key.TheVariants as keys
 use Rattle.validate.specs.Table.{first_fault, known_by, verifies_in}
 use Rattle.node_rules.specs.Nodes.{Setting, Node, state_of, certificate_of}
 use Rattle.node_rules.specs.Refusals.{refusal}
-use Rattle.audit_node.specs.Playing.{Kept, setting_with, IsMirror}
+use Rattle.audit_rules.specs.Heads.{setting_with}
+use Rattle.audit_node.specs.Playing.{Kept, IsMirror}
 
 pub refusal-is : (s : Setting) (v : Kept) (n : Node) (r : Record) (answer : Option Fault) → IsMirror s v n
     → answer ≡ first_fault (known_by v.group (keys.Lms v.authority) v.roster (state_of s n) v.me) r → answer ≡ refusal s n r

@@ -27,7 +27,8 @@ use Rattle.node_rules.specs.Nodes.{Setting, Node, state_of, public_key_of}
 use Rattle.node_rules.specs.Refusals.{refusal, refusal_of}
 use Rattle.node_rules.specs.Deliveries.{may_rise, is_of_place, asked_with, verifies_for, returning_note}
 use Rattle.audit_node.specs.Noted.{own_note}
-use Rattle.audit_node.specs.Playing.{Kept, IsMirror, setting_with}
+use Rattle.audit_rules.specs.Heads.{setting_with}
+use Rattle.audit_node.specs.Playing.{Kept, IsMirror}
 use Rattle.audit_node.specs.Returning.{is_placed, is_misplaced, asks_return}
 use Rattle.audit_node.proofs.PlayLemmas.{setting-me}
 

@@ -1,5 +1,5 @@
 -- News: what is added to them, and how they go out.
-use Rattle.std.proofs.Common.{arith, length, ◌≡◌, ◌≢◌, ℕ, true, false, List, [], ◌∷◌, ◌++◌, Option, Some, None, map, refl, ap, sym, ◌∙◌, subst}
+use Rattle.std.proofs.Common.{arith, length, ◌≡◌, ◌≢◌, ◌<◌, true, false, List, [], ◌∷◌, ◌++◌, Option, Some, None, map, refl, ap, sym, ◌∙◌, subst}
 use Rattle.std.specs.Prelude.{is_some}
 use Rattle.std.specs.List.{list_any}
 use Rattle.std.specs.Ordering.{eq_by_cmp}
@@ -20,7 +20,8 @@ use Rattle.audit_node.specs.Neighbours.{addressees}
 use Rattle.audit_node.specs.Exchanging.{items_of}
 use Rattle.audit_node.specs.Playing.{Kept, IsAt, Plays, Grows}
 use Rattle.audit_node.proofs.PlayLemmas.{from-fine}
-use Rattle.audit_node.proofs.ExchangeLemmas.{items-held}
+use Rattle.audit_node.specs.Sendable.{AreSendable}
+use Rattle.audit_node.proofs.ExchangeLemmas.{given-sendable, items-held}
 
 -- ---- what is added
 
@@ -55,10 +56,12 @@ fresh-given s es v c h =
 
 pub spread-given : (s : Setting) (es : List journal.Event) (v w : Kept) (c : Call) (items : List Item)
     → Plays s es v c → Grows v w → items ≡ items_of v.records v.news
-    → ((rs : List Record) → map (item_of s) items ≡ rs → Plays s es w (spreads_all s rs c))
+    → ((rs : List Record) → map (item_of s) items ≡ rs → (0 < length items → AreSendable s items) → Plays s es w (spreads_all s rs c))
     → Plays s es w (spreads_all s (fresh c.node) c)
 spread-given s es v w c items p grows are sent =
-    from-fine s es v w c (spreads_all s (fresh c.node) c) p grows (λ h. sent (fresh c.node) (ap (map (item_of s)) are ∙ fresh-given s es v c h))
+    from-fine s es v w c (spreads_all s (fresh c.node) c) p grows (λ h.
+    sent (fresh c.node) (ap (map (item_of s)) are ∙ fresh-given s es v c h)
+    (subst (λ (xs : List Item). 0 < length xs → AreSendable s xs) (sym are) (given-sendable s v c.node v.news h.is)))
 
 -- records of items
 pub no-items : {X Y : Type 0} (f : X → Y) (xs : List X) (ys : List Y) → length xs ≡ 0 → map f xs ≡ ys → ys ≡ []
@@ -88,7 +91,7 @@ cleared-plays s es v c news none p = record {
       let h = p.at fine in
       let n = h.is in
       record {
-        is = record { setting = n.setting; long = n.long; holds = n.holds; stored = n.stored; records = n.records; roster = n.roster; probes = n.probes; news = none; since = n.since };
+        is = record { setting = n.setting; signs = n.signs; holds = n.holds; stored = n.stored; records = n.records; roster = n.roster; probes = n.probes; news = none; since = n.since };
         told = h.told;
         sent = h.sent;
       };

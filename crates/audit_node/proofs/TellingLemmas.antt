@@ -1,6 +1,5 @@
 -- What is added one after the other.
-use Rattle.std.proofs.Common.{◌≡◌, ℕ, ◌+◌, ◌<◌, inl, inr, length, take, get_or, List, [], ◌∷◌, ◌++◌, map, refl, ap, sym, ◌∙◌, subst}
-use Rattle.std.proofs.lemmas.Bool.{cases_Bool}
+use Rattle.std.proofs.Common.{◌≡◌, ℕ, ◌+◌, ◌<◌, length, take, get_or, List, [], ◌∷◌, ◌++◌, map, refl, ap, sym, ◌∙◌}
 use Rattle.std.proofs.lemmas.List.{append_assoc, take_more}
 use Rattle.ff_ids.specs.Steps.{Report}
 pub use Rattle.signer.proofs.OnwardLemmas.{front-after, front-trans}
@@ -8,7 +7,6 @@ use Rattle.journal.specs.declared.event.Event as journal
 use Rattle.journal.specs.declared.event.What as whats
 use Rattle.journal.specs.declared.event.What.TheVariants as kinds
 use Rattle.node_rules.specs.Nodes.{Setting}
-use Rattle.node_rules.specs.Calls.{told_of}
 use Rattle.audit_node.specs.declared.owing.Owed.TheVariants as owings
 use Rattle.audit_node.specs.declared.owing.OwedEvent.{OwedEvent}
 use Rattle.audit_node.specs.Owing.{reported, told_by, owed_as}

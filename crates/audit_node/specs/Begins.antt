@@ -1,9 +1,7 @@
 -- A mirror whose first note is due, and not yet accepted.
-use Rattle.std.specs.Prelude.{◌≡◌, ℕ, ◌+◌, ◌<◌, ◌≤◌, All, Bool, true, false, not, nat_eq, Option, Some, List, [], length}
-use Rattle.ff_ids.specs.declared.TheConstants.{MAX_TOLERANCE}
+use Rattle.std.specs.Prelude.{◌≡◌, ℕ, ◌+◌, ◌<◌, ◌≤◌, All, Bool, true, false, not, nat_eq, Some, List, [], length}
+use Rattle.ff_ids.specs.declared.TheConstants.{MAX_TOLERANCE, MEMBERS}
 use Rattle.ff_ids.specs.declared.Group.{Group}
-use Rattle.ff_ids.specs.Heals.{Heal}
-use Rattle.lms_tree.specs.declared.key.PublicKey.{PublicKey}
 use Rattle.records.specs.declared.Record.{Record}
 use Rattle.records.specs.declared.Body.{Body}
 use Rattle.records.specs.declared.Body.TheVariants.{Note, Certificate}
@@ -15,14 +13,15 @@ use Rattle.node_rules.specs.Nodes.{Setting}
 use Rattle.node_rules.specs.Starting.{opened, first_note}
 use Rattle.std.specs.List.{list_any}
 use Rattle.node_rules.specs.Lives.{is_certificate_for}
-use Rattle.audit_node.specs.Rolls.{AreApart, recs_of}
+pub use Rattle.audit_node.specs.Rolls.{IsOfOther, IsApart, AreApart, recs_of}
+use Rattle.audit_rules.specs.Heads.{setting_with}
 use Rattle.audit_node.specs.declared.kit.Kit.{Kit}
 use Rattle.audit_node.specs.declared.starting.Ready.{Ready}
 use Rattle.audit_node.specs.declared.starting.Parts.{Parts}
 use Rattle.audit_node.specs.Told.{Tellings}
 use Rattle.audit_node.specs.Signatures.{with_stored}
 use Rattle.audit_set.specs.declared.known.Known.TheVariants as knowns
-use Rattle.audit_node.specs.Playing.{Kept, IsLong, IsMirror, setting_with}
+use Rattle.audit_node.specs.Playing.{Kept, IsLength, IsSendable, IsMirror}
 
 -- ---- the kit
 
@@ -59,17 +58,23 @@ pub record IsStored (indexes : ℕ) (stored : Stored) : Type 0 where
   pub within : stored.next ≤ indexes
 
 -- The group's numbers are in their ranges, and the certificates were checked in it under the authority's key. No two are
--- of one number, and the node's own is among them.
+-- of one number, and the node's own is among them. Own signatures have as many bytes as a record's may.
 pub record IsKit (kit : Kit) : Type 0 where
   pub group : IsGroup kit.group
   pub checked : All (IsCheckedIn kit.group (key_kinds.Lms kit.authority)) kit.certificates.items
   pub certificates : AreCertificatesOf kit.me (recs_of kit.certificates.items)
   pub stored : IsStored kit.indexes kit.stored
+  pub own_length : IsLength kit.own_length
 
 -- The setting is one of the kit: of whatever signatures, which are so long.
 pub record IsSettingOf (s : Setting) (kit : Kit) : Type 0 where
   pub is : s ≡ setting_with kit.group kit.heal kit.me kit.authority kit.indexes s.signature
   pub long : (i : ℕ) (b : Body) → length (s.signature i b) ≡ kit.own_length
+
+-- The node of the kit is a member, whose signatures can be sent.
+pub record MaySign (kit : Kit) : Type 0 where
+  pub me : kit.me < MEMBERS
+  pub own_length : IsLength kit.own_length
 
 -- ---- the parts of a life
 
@@ -101,7 +106,7 @@ pub record StandsOpened (s : Setting) (nonces : ℕ → ℕ) (certificates : Lis
 
 abbrev pub HasOpened : Group → (ℕ → ℕ) → List Record → Parts → Type 0
 HasOpened group nonces certificates p =
-    (s : Setting) (kit : Kit) → kit.group ≡ group → IsSettingOf s kit → StandsOpened s nonces certificates kit.stored (kept_in kit p)
+    (s : Setting) (kit : Kit) → kit.group ≡ group → MaySign kit → IsSettingOf s kit → StandsOpened s nonces certificates kit.stored (kept_in kit p)
 
 pub record AreOf (group : Group) (p : Parts) : Type 0 where
   pub membership : p.roll.membership.group ≡ group
@@ -135,6 +140,6 @@ pub record MayBegin (s : Setting) (nonces : ℕ → ℕ) (certificates : List Re
   pub is : (told : Tellings) → IsMirror s (kept_by r told) (with_stored (Note r.note) (opened s nonces certificates stored)).node
   pub first : Note r.note ≡ first_note s stored
   pub index : r.own.index ≡ (opened s nonces certificates stored).node.stored.next
-  pub long : IsLong s (Some (knowns.Own r.own))
+  pub sendable : IsSendable s (Some (knowns.Own r.own))
   pub told_none : (opened s nonces certificates stored).told ≡ []
   pub sent_none : (opened s nonces certificates stored).sent ≡ []

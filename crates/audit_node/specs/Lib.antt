@@ -1,4 +1,5 @@
 pub mod Owing
+pub mod Sendable
 pub mod Told
 pub mod Records
 pub mod Returning
@@ -11,4 +12,5 @@ pub mod Exchanging
 pub mod Rolls
 pub mod Begins
 pub mod Answers
+pub mod Learning
 pub mod Handled

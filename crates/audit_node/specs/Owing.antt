@@ -1,5 +1,5 @@
 -- What a node must have reported, as the mirror gives it: own signatures and nonces are its own.
-use Rattle.std.specs.Prelude.{ℕ, List, map}
+use Rattle.std.specs.Prelude.{List, map}
 use Rattle.records.specs.declared.Record.{Record}
 use Rattle.datagram.specs.declared.Datagram.TheVariants as kinds
 use Rattle.datagram.specs.Spelling.{datagram_bytes}

@@ -8,7 +8,7 @@ ghost use Rattle.node_rules.specs.Nodes.{Setting, Node as RulesNode};
 ghost use Rattle.node_rules.specs.Calls.{Call};
 ghost use Rattle.node_rules.specs.Deliveries.{delivered, hears};
 ghost use Rattle.audit_node.specs.Playing.{IsMirror, Plays, Grows};
-ghost use Rattle.audit_node.specs.Answers.{Gives};
+ghost use Rattle.audit_node.specs.Learning.{Gives};
 
 use crate::Mirror;
 use crate::owing::OwedEvent;
@@ -75,7 +75,7 @@ impl Mirror {
         owed: &mut Vec<OwedEvent>,
     ) -> Result<(), NoMemory>
         ensures { OnOk result ((s : Setting) (n : RulesNode) → IsMirror s self.old n
-            → Gives s self.new owed.old.items owed.new.items (delivered s n bytes.now)) }
+            → Gives s n self.new owed.old.items owed.new.items (delivered s n bytes.now)) }
     {
         self.telling = CallOutput::over(alloc, owed);
         let heard = read(alloc, bytes);

@@ -62,6 +62,7 @@ impl Mirror {
             (gives_note true s (asked_with s c.node None body.now rec.rec) (takes s rec.rec c)) }
         ensures grows { Grows self.old self.new }
     {
+        let _checked = rec.rec();
         match body {
             Body::Certificate(cert) => self.take_certificate(rec, *cert),
             Body::Note(note) => self.take_note(rec, *note),

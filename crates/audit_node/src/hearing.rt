@@ -1,6 +1,6 @@
 //! What is heard: records, pings, pongs and summaries.
 
-ghost use Rattle.std.specs.Prelude.{◌≡◌, ◌<◌, List, IfOk, All, map};
+ghost use Rattle.std.specs.Prelude.{◌≡◌, ◌<◌, List, IfOk, All, length, map};
 ghost use Rattle.ff_ids.specs.declared.TheConstants.{PAGES};
 ghost use Rattle.journal.specs.declared.event.Event as journal;
 ghost use Rattle.records.specs.Spelling.{HasPort};
@@ -12,6 +12,7 @@ ghost use Rattle.datagram.specs.declared.Datagram.TheVariants as kinds;
 ghost use Rattle.node_rules.specs.Deliveries.{is_other, pinged, ponged_by, exchanges, gives, handles_all, replies};
 ghost use Rattle.node_rules.specs.Pages.{page as page_of, lacking};
 ghost use Rattle.audit_node.specs.Owing.{item_of};
+ghost use Rattle.audit_node.specs.Sendable.{AreSendable};
 ghost use Rattle.audit_node.specs.Playing.{Plays, Grows, IsMirror};
 
 use crate::Mirror;
@@ -148,6 +149,7 @@ impl Mirror {
     fn send_some(&mut self, items: Vec<Item>, to: MemberId)
         ensures plays { (s : Setting) (es : List journal.Event) (c : Call) (rs : List Recorded)
             → Plays s es self.old c → map (item_of s) items.items ≡ rs
+            → (0 < length items.items → AreSendable s items.items)
             → Plays s es self.new (gives s to rs c) }
         ensures grows { Grows self.old self.new }
     {

@@ -1,6 +1,7 @@
 //! What a mirror of a life begins with.
 
 ghost use Rattle.std.specs.Prelude.{◌≡◌, ◌↔◌, All, true};
+ghost use Rattle.audit_node.specs.Playing.{IsLength};
 ghost use Rattle.records.specs.declared.keys.Key.TheVariants as keys;
 ghost use Rattle.audit_node.specs.Begins.{IsCheckedIn, IsGroup, IsKit, IsStored};
 
@@ -45,9 +46,17 @@ fn is_stored(indexes: u32, stored: &Stored) -> bool
     stored.epoch <= u64::from(stored.next) && stored.next <= indexes
 }
 
+/// Whether a record's signature may have so many bytes.
+fn is_length(length: u16) -> bool
+    ensures { (result ≡ true) ↔ IsLength length }
+{
+    (1..=9004).contains(&length)
+}
+
 impl Kit {
     /// Whether a life may begin with the kit, whose certificates were each checked in its group under the authority's key:
-    /// the numbers are in their ranges, no two certificates are of one member, and the member's own is among them.
+    /// the numbers are in their ranges, no two certificates are of one member, and the member's own is among them. Own
+    /// signatures have as many bytes as a record's may.
     pub fn is_sound(&self) -> bool
         requires { All (IsCheckedIn self.now.group (keys.Lms self.now.authority)) self.now.certificates.items }
         ensures { (result ≡ true) ↔ IsKit self.now }
@@ -55,5 +64,6 @@ impl Kit {
         is_group(&self.group)
             && are_certificates_of(self.me, &self.certificates)
             && is_stored(self.indexes, &self.stored)
+            && is_length(self.own_length)
     }
 }

@@ -4,7 +4,7 @@ ghost use Rattle.std.specs.Prelude.{◌≡◌, ◌↔◌, true, OnOk};
 ghost use Rattle.node_rules.specs.Nodes.{Setting, Node as RulesNode};
 ghost use Rattle.node_rules.specs.Leaving.{left};
 ghost use Rattle.audit_node.specs.Playing.{IsMirror};
-ghost use Rattle.audit_node.specs.Answers.{Gives};
+ghost use Rattle.audit_node.specs.Learning.{Gives};
 
 use crate::Mirror;
 use crate::owing::OwedEvent;
@@ -25,7 +25,7 @@ impl Mirror {
     /// The node leaves: appends what it must have reported of that. After a refusal of memory the mirror stands for no node.
     pub fn leave(&mut self, alloc: Global, owed: &mut Vec<OwedEvent>) -> Result<(), NoMemory>
         ensures { OnOk result ((s : Setting) (n : RulesNode) → IsMirror s self.old n
-            → Gives s self.new owed.old.items owed.new.items (left s n)) }
+            → Gives s n self.new owed.old.items owed.new.items (left s n)) }
     {
         self.telling = CallOutput::over(alloc, owed);
         self.want_note(alloc, Mask(0));

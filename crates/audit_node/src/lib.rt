@@ -3,9 +3,13 @@
 //! `node_rules`, whatever the signatures are that the node made.
 #![tactic(auto)]
 
-ghost use Rattle.std.specs.Prelude.{◌≡◌};
+ghost use Rattle.std.specs.Prelude.{◌≡◌, ℕ, List, true};
 ghost use Rattle.std.specs.Option.{option_map};
+ghost use Rattle.detector.specs.Silence.{History, ticked_with, is_pinged, with_nonce};
+ghost use Rattle.detector.specs.declared.watch.Watched.{Watched};
+ghost use Rattle.node_rules.specs.Nodes.{Setting, Node as RulesNode};
 ghost use Rattle.validate.specs.Certified.{certificate_of as kept_certificate};
+ghost use Rattle.audit_node.specs.Playing.{IsMirror};
 
 mod accusing;
 mod certificates;
@@ -108,6 +112,17 @@ impl Mirror {
         ensures { result ≡ self.now.membership.moment }
     {
         self.membership.now()
+    }
+
+    /// The ping of the last tick to the member had this nonce, in place of the one that was drawn.
+    pub fn renonce(&mut self, to: MemberId, nonce: u64)
+        ensures { (s : Setting) (n : RulesNode) (h : History) (watched : List Watched)
+            (sent : List (ℕ × ℕ)) → is_pinged to sent ≡ true
+            → IsMirror s self.old (record n { probes = ticked_with h watched sent })
+            → IsMirror s self.new
+            (record n { probes = ticked_with h watched (with_nonce to nonce sent) }) }
+    {
+        self.detector.renonce(to, nonce);
     }
 
     /// The port in the member's certificate; none exactly where it has no certificate here.

@@ -13,7 +13,7 @@ ghost use Rattle.audit_node.specs.Told.{Adds, with_report};
 ghost use Rattle.audit_node.specs.News.{keeps};
 ghost use Rattle.audit_node.specs.Records.{ended_all, retired_all, without_all};
 ghost use Rattle.audit_node.specs.Noted.{HoldsNotes};
-ghost use Rattle.audit_node.specs.Playing.{Kept, Plays, Grows, IsLong, record_of, with_known};
+ghost use Rattle.audit_node.specs.Playing.{Kept, Plays, Grows, IsSendable, record_of, with_known};
 ghost use Rattle.audit_node.specs.Signatures.{with_stored};
 
 use crate::telling::CallOutput;
@@ -83,7 +83,7 @@ pub fn accept_note(
     requires epoch { 0 < note.epoch }
     requires notes { HoldsNotes membership.old records.old }
     ensures plays { (s : Setting) (es : List journal.Event) (v : Kept) (c : Call)
-        → membership.old.group ≡ v.group → heal ≡ v.heal → IsLong s (Some known)
+        → membership.old.group ≡ v.group → heal ≡ v.heal → IsSendable s (Some known)
         → Plays s es (with_known v membership.old records.old telling.old) c
         → Plays s es (with_known v membership.new records.new telling.new)
         (keeps s (record_of s known) c) }
@@ -120,7 +120,7 @@ pub fn keep_own(
         → membership.old.group ≡ v.group → heal ≡ v.heal
         → Plays s es (with_known v membership.old records.old telling.old)
         (with_stored (bodies.Note note.now) c)
-        → own.index ≡ c.node.stored.next → IsLong s (Some (knowns.Own own))
+        → own.index ≡ c.node.stored.next → IsSendable s (Some (knowns.Own own))
         → Plays s es (with_known v membership.new records.new telling.new)
         (keeps s (own_record s c.node (bodies.Note note.now))
         (spends s (bodies.Note note.now) c)) }

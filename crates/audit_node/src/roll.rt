@@ -63,6 +63,7 @@ impl Roll {
         ensures roster { self.new.roster ≡ insert self.old.roster cert.member cert }
         ensures notes { HoldsNotes self.new.membership self.new.records }
     {
+        let _checked = rec.rec();
         let places = hash_places(self.membership.group(), cert.member);
         let _fault = self.membership.add_member(cert.member, places);
         self.roster.put(cert);

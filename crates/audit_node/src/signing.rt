@@ -1,9 +1,10 @@
 //! Own records: where the key has an index left each is made without its signature, reported, accepted and sent.
 
-ghost use Rattle.std.specs.Prelude.{◌≡◌, ◌+◌, ◌<◌, ◌^◌, List, true, None, Some, is_some, IfOk, ◌∷◌, [], length};
+ghost use Rattle.std.specs.Prelude.{◌≡◌, ◌+◌, ◌<◌, ◌^◌, ℕ, List, true, None, Some, is_some, IfOk, ◌∷◌, []};
 ghost use Rattle.std.specs.FinMap.{get};
 ghost use Rattle.ff_ids.specs.Masks.{ring_count, note_mask};
 ghost use Rattle.journal.specs.declared.event.Event as journal;
+ghost use Rattle.records.specs.Spelling.{IsAccusation, IsNote};
 ghost use Rattle.records.specs.declared.Body.TheVariants as bodies;
 ghost use Rattle.signer.specs.Signing.{stored_after as stored_after_it};
 ghost use Rattle.datagram.specs.declared.Datagram.TheVariants as kinds;
@@ -11,7 +12,7 @@ ghost use Rattle.node_rules.specs.Nodes.{Setting, state_of};
 ghost use Rattle.node_rules.specs.Calls.{Call, sends_to_all, signs_and_sends, wants};
 ghost use Rattle.audit_set.specs.declared.known.Known.TheVariants as knowns;
 ghost use Rattle.audit_node.specs.declared.owing.Item.TheVariants as parts;
-ghost use Rattle.audit_node.specs.Playing.{Plays, Grows};
+ghost use Rattle.audit_node.specs.Playing.{IsOwn, Plays, Grows};
 ghost use Rattle.audit_node.specs.Neighbours.{addressees};
 ghost use Rattle.audit_node.specs.Signatures.{with_stored, next_own};
 
@@ -46,6 +47,24 @@ pub(crate) fn stored_after(stored: Stored, body: &Body) -> Stored
     }
 }
 
+/// A note's numbers are within their ranges.
+pub(crate) fn note_is_spelled(note: &NoteBody)
+    ensures { IsNote note.now }
+{
+    let _member = note.member.get();
+    let _epoch = note.epoch.get();
+    let _mask = note.mask.0.to_be_bytes();
+}
+
+/// So are an accusation's.
+fn accusation_is_spelled(acc: &AccBody)
+    ensures { IsAccusation acc.now }
+{
+    let _accuser = acc.accuser.get();
+    let _accused = acc.accused.get();
+    let _epoch = acc.epoch.get();
+}
+
 /// What is known of the own record of this index, whose signature has so many bytes.
 fn own_known(index: u32, body: Body, length: u16) -> Known
     ensures { result ≡ knowns.Own (record { index = index; body = body; length = length }) }
@@ -69,7 +88,8 @@ fn own_item(alloc: Global, index: u32, body: Body) -> Result<Vec<Item>, NoMemory
 impl Mirror {
     /// The datagram of an own record goes to the neighbours and one more.
     fn send_own(&mut self, alloc: Global, index: u32, body: Body, also: Option<MemberId>)
-        ensures plays { (s : Setting) (es : List journal.Event) (c : Call)
+        ensures plays { (s : Setting) (es : List journal.Event) (c : Call) (long : ℕ)
+            → IsOwn s (record { index = index; body = body; length = long })
             → Plays s es self.old c
             → Plays s es self.new (sends_to_all s (addressees s also (state_of s c.node))
             (kinds.Records s.me
@@ -89,7 +109,8 @@ impl Mirror {
         ensures plays { (s : Setting) (es : List journal.Event) (c : Call)
             → Plays s es self.old (with_stored (bodies.Accusation acc.now) c)
             → index ≡ c.node.stored.next
-            → self.old.own_length ≡ length (s.signature index (bodies.Accusation acc.now))
+            → IsOwn s (record
+            { index = index; body = bodies.Accusation acc.now; length = self.old.own_length })
             → Plays s es self.new
             (signs_and_sends s (bodies.Accusation acc.now) (addressees s (Some acc.now.accused))
             c) }
@@ -126,6 +147,7 @@ impl Mirror {
             body: Body::Note(note),
             length: self.own_length,
         };
+        note_is_spelled(&note);
         self.stored = stored_after(self.stored, &own.body);
         keep_own(
             self.heal,
@@ -140,8 +162,9 @@ impl Mirror {
         self.send_own(alloc, index, Body::Note(note), None);
     }
 
-    /// This accusation is wanted.
+    /// This accusation by the node is wanted.
     pub(crate) fn want_accusation(&mut self, alloc: Global, acc: &AccBody)
+        requires by { acc.now.accuser ≡ self.old.me }
         requires ring { acc.now.ring.0 < ring_count self.old.group.t }
         requires noted { is_some (get self.old.membership.notes acc.now.accused) ≡ true }
         ensures plays { (s : Setting) (es : List journal.Event) (c : Call)
@@ -155,6 +178,7 @@ impl Mirror {
             self.tell(What::Exhausted { next: index });
             return;
         }
+        accusation_is_spelled(acc);
         self.stored = stored_after(self.stored, &Body::Accusation(*acc));
         self.pass_on_accusation(alloc, index, acc);
     }

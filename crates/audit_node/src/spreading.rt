@@ -1,11 +1,12 @@
 //! News: what was accepted since the last due tick, and that it goes to the neighbours.
 
-ghost use Rattle.std.specs.Prelude.{◌≡◌, List, map};
+ghost use Rattle.std.specs.Prelude.{◌≡◌, ◌<◌, List, length, map};
 ghost use Rattle.std.specs.List.{list_any};
 ghost use Rattle.std.specs.Ordering.{eq_by_cmp};
 ghost use Rattle.record_slots.specs.Held.{key_cmp};
 ghost use Rattle.records.specs.declared.Record.{Record as Recorded};
 ghost use Rattle.audit_node.specs.Owing.{item_of};
+ghost use Rattle.audit_node.specs.Sendable.{AreSendable};
 ghost use Rattle.journal.specs.declared.event.Event as journal;
 ghost use Rattle.node_rules.specs.Nodes.{Setting};
 ghost use Rattle.node_rules.specs.Calls.{Call};
@@ -63,6 +64,7 @@ impl Mirror {
     fn send_any(&mut self, alloc: Global, items: &[Item])
         ensures plays { (s : Setting) (es : List journal.Event) (c : Call) (rs : List Recorded)
             → Plays s es self.old c → map (item_of s) items.now ≡ rs
+            → (0 < length items.now → AreSendable s items.now)
             → Plays s es self.new (spreads_all s rs c) }
         ensures grows { Grows self.old self.new }
     {

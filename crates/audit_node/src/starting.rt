@@ -1,8 +1,7 @@
 //! How a life begins: certificates are taken, and a first note is made and accepted. Nothing is sent.
 
-ghost use Rattle.std.specs.Prelude.{◌≡◌, ◌≤◌, ◌<◌, ℕ, true, List, None, IfOk, All};
+ghost use Rattle.std.specs.Prelude.{◌≡◌, ◌≤◌, ◌<◌, ℕ, true, List, None, IfOk, All, map};
 ghost use Rattle.ff_ids.specs.declared.TheConstants.{MAX_TOLERANCE};
-ghost use Rattle.detector.specs.Silence.{nonce};
 ghost use Rattle.ff_ids.specs.declared.summary.RecordKey.TheVariants as keys;
 ghost use Rattle.ff_ids.specs.Masks.{good_mask};
 ghost use Rattle.records.specs.declared.Record.{Record as Recorded};
@@ -11,14 +10,14 @@ ghost use Rattle.epoch_store.specs.declared.Stored.{Stored as Keeping};
 ghost use Rattle.node_rules.specs.Nodes.{Setting};
 ghost use Rattle.node_rules.specs.Replies.{first_mask as mask_at_first};
 ghost use Rattle.node_rules.specs.Calls.{Call};
-ghost use Rattle.node_rules.specs.Starting.{started};
+ghost use Rattle.node_rules.specs.Starting.{started, blank};
 ghost use Rattle.journal.specs.declared.event.Event as journal;
 ghost use Rattle.audit_node.specs.News.{with_fresh};
 ghost use Rattle.audit_node.specs.Owing.{told_by};
 ghost use Rattle.audit_node.specs.Playing.{Plays, Grows, IsReady};
 ghost use Rattle.audit_node.specs.Told.{IsPrefix};
 ghost use Rattle.audit_node.specs.Noted.{HoldsNotes, own_note};
-ghost use Rattle.audit_node.specs.Answers.{Gives};
+ghost use Rattle.audit_node.specs.Learning.{Gives};
 ghost use Rattle.audit_node.specs.Rolls.{IsCertificate, AreApart, recs_of};
 ghost use Rattle.audit_node.specs.Begins.{AreOf, HasOpened, IsKit, IsSettingOf, MayBegin};
 
@@ -27,7 +26,7 @@ use crate::kit::Kit;
 use crate::owing::OwedEvent;
 use crate::parts::keep_own;
 use crate::roll::Roll;
-use crate::signing::stored_after;
+use crate::signing::{note_is_spelled, stored_after};
 use crate::telling::CallOutput;
 use audit_set::Unseen;
 use detector::{Detector, Found};
@@ -72,8 +71,8 @@ fn open_parts(
     requires misses { group.now.misses ≤ 16 }
     requires certificates { All IsCertificate certificates.items }
     requires apart { AreApart (recs_of certificates.items) }
-    ensures opened { IfOk result (λ p. HasOpened group.now (nonce seed)
-        (recs_of certificates.items) p) }
+    ensures opened { IfOk result (λ p. (nonces : ℕ → ℕ)
+        → HasOpened group.now nonces (recs_of certificates.items) p) }
     ensures groups { IfOk result (λ p. AreOf group.now p) }
     ensures notes { IfOk result (λ p. HoldsNotes p.roll.membership p.roll.records) }
 {
@@ -132,8 +131,8 @@ fn make_ready(alloc: Global, kit: Kit) -> Result<Ready, NoMemory>
     ensures body { IfOk result (λ r. r.own.body ≡ bodies.Note r.note) }
     ensures epoch { IfOk result (λ r. 0 < r.note.epoch) }
     ensures begins { IfOk result
-        (λ r. (s : Setting) → IsSettingOf s kit
-        → MayBegin s (nonce kit.nonce_seed) (recs_of kit.certificates.items) kit.stored r) }
+        (λ r. (s : Setting) (nonces : ℕ → ℕ) → IsSettingOf s kit
+        → MayBegin s nonces (recs_of kit.certificates.items) kit.stored r) }
 {
     let Kit {
         group,
@@ -157,6 +156,7 @@ fn make_ready(alloc: Global, kit: Kit) -> Result<Ready, NoMemory>
         epoch: Epoch::new(stored.epoch + 1),
         mask: first_mask(&group, stored.mask),
     };
+    note_is_spelled(&note);
     let own = own_of(stored.next, &note, own_length);
     let stored = stored_after(stored, &Body::Note(note));
     Ok(Ready {
@@ -255,14 +255,15 @@ impl Mirror {
 
     /// A mirror of a life that begins with the kit, which is sound and has an index left: the certificates are taken, and a
     /// first note is accepted, of the epoch after the stored one, with the stored mask if it is good, else with all rings
-    /// enabled. Appends what the node must have reported of that. The mirror stands for the node of each setting of the kit.
+    /// enabled. Appends what the node must have reported of that. The mirror stands for the node of each setting of the kit,
+    /// whatever its source of nonces.
     pub fn start(alloc: Global, kit: Kit, owed: &mut Vec<OwedEvent>) -> Result<Mirror, NoMemory>
         requires kit { IsKit kit }
         requires left { kit.stored.next < kit.indexes }
         ensures { IfOk result
-            (λ mirror. (s : Setting) → IsSettingOf s kit
-            → Gives s mirror owed.old.items owed.new.items
-            (started s (nonce kit.nonce_seed) (recs_of kit.certificates.items) kit.stored)) }
+            (λ mirror. (s : Setting) (nonces : ℕ → ℕ) → IsSettingOf s kit
+            → Gives s (blank s nonces kit.stored) mirror owed.old.items owed.new.items
+            (started s nonces (map (λ x. x.rec) kit.certificates.items) kit.stored)) }
     {
         let ready = make_ready(alloc, kit)?;
         let mut mirror = ready.begin(CallOutput::over(alloc, owed));

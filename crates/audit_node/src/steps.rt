@@ -9,7 +9,8 @@ ghost use Rattle.records.specs.declared.Body.TheVariants as bodies;
 ghost use Rattle.validate.specs.Certified.{certificate_of as kept_certificate};
 ghost use Rattle.node_rules.specs.Nodes.{Setting, certificate_of};
 ghost use Rattle.node_rules.specs.Calls.{Call, tells, lives, takes};
-ghost use Rattle.audit_node.specs.Playing.{IsLong, Plays, Grows, record_of};
+ghost use Rattle.node_rules.specs.Sending.{is_sent};
+ghost use Rattle.audit_node.specs.Playing.{IsSendable, Plays, Grows, record_of};
 ghost use Rattle.audit_set.specs.Knowns.{body_of};
 
 use crate::Mirror;
@@ -21,8 +22,9 @@ use records::{CertBody, Checked};
 use ring_order::hash_places;
 
 impl Mirror {
-    /// Tells this.
+    /// Tells this, which isn't that a datagram is sent.
     pub(crate) fn tell(&mut self, what: What)
+        requires { is_sent what ≡ false }
         ensures plays { (s : Setting) (es : List journal.Event) (c : Call)
             → Plays s es self.old c
             → Plays s es self.new (tells s what c) }
@@ -79,7 +81,7 @@ impl Mirror {
         requires ring { acc.ring.0 < ring_count self.old.group.t }
         requires noted { is_some (get self.old.membership.notes acc.accused) ≡ true }
         ensures plays { (s : Setting) (es : List journal.Event) (c : Call)
-            → IsLong s (Some known) → Plays s es self.old c
+            → IsSendable s (Some known) → Plays s es self.old c
             → Plays s es self.new (takes s (record_of s known) c) }
         ensures grows { Grows self.old self.new }
         ensures stored { self.new.stored ≡ self.old.stored }
@@ -100,6 +102,7 @@ impl Mirror {
             → Plays s es self.new (takes s rec.rec c) }
         ensures grows { Grows self.old self.new }
     {
+        let _checked = rec.rec();
         let places = hash_places(&self.group, cert.member);
         let _fault = self.membership.add_member(cert.member, places);
         self.roster.put(cert);

@@ -6,7 +6,8 @@ ghost use Rattle.node_rules.specs.Nodes.{Setting, Node as RulesNode};
 ghost use Rattle.node_rules.specs.Calls.{Call, begun};
 ghost use Rattle.node_rules.specs.Ticking.{due_tick, pings_all, ticked};
 ghost use Rattle.audit_node.specs.Playing.{IsMirror, Plays, Grows};
-ghost use Rattle.audit_node.specs.Answers.{Gives};
+ghost use Rattle.audit_node.specs.Answers.{Passes};
+ghost use Rattle.audit_node.specs.Learning.{Gives};
 
 use crate::Mirror;
 use crate::owing::OwedEvent;
@@ -69,11 +70,11 @@ impl Mirror {
         self.gossip(alloc, round);
     }
 
-    /// One tick.
+    /// One tick, whose pings have the nonces that are drawn.
     fn pass(&mut self, alloc: Global)
         requires { self.old.membership.moment < 2 ^ 64 - 1 }
-        ensures plays { (s : Setting) (es : List journal.Event) (n : RulesNode)
-            → Plays s es self.old (begun n) → Plays s es self.new (ticked s n) }
+        ensures passes { (s : Setting) (es : List journal.Event) (n : RulesNode)
+            → Plays s es self.old (begun n) → Passes s es self.new n }
         ensures grows { Grows self.old self.new }
     {
         self.live_tick();
@@ -97,7 +98,7 @@ impl Mirror {
     pub fn tick(&mut self, alloc: Global, owed: &mut Vec<OwedEvent>) -> Result<(), NoMemory>
         requires { self.old.membership.moment < 2 ^ 64 - 1 }
         ensures { OnOk result ((s : Setting) (n : RulesNode) → IsMirror s self.old n
-            → Gives s self.new owed.old.items owed.new.items (ticked s n)) }
+            → Gives s n self.new owed.old.items owed.new.items (ticked s n)) }
     {
         self.telling = CallOutput::over(alloc, owed);
         self.pass(alloc);

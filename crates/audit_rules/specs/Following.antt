@@ -79,7 +79,7 @@ Follows h lines line = IsShownFront h (lines ++ line ∷ [])
 -- What is answered to a line behind those that went on.
 abbrev pub Judges : Head → List (List ℕ) → List ℕ → Result (Unit {0}) AuditFault → Type 0
 Judges h lines line (Ok done) = Follows h lines line
-Judges h lines line (Err faults.Form) = ¬ (IsLine line)
+Judges h lines line (Err faults.Form) = ¬ (IsLine line) × ¬ (FollowsButOwn h lines line)
 Judges h lines line (Err faults.Signature) = IsLine line × ¬ (Follows h lines line) × FollowsButOwn h lines line
 Judges h lines line (Err faults.Differs) = IsLine line × ¬ (FollowsButOwn h lines line)
 Judges h lines line (Err faults.OutOfMemory) = Unit {0}

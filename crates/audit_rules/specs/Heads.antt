@@ -19,7 +19,9 @@ use Rattle.records.specs.declared.Record.{Record}
 use Rattle.records.specs.Keys.{verdict_of}
 use Rattle.records.specs.Signing.{signed_bytes}
 use Rattle.ring_order.specs.Hashed.{hashed_places}
+use Rattle.node_rules.specs.Lives.{HasRings, IsKit}
 use Rattle.node_rules.specs.Nodes.{Setting}
+use Rattle.node_rules.specs.Vouching.{IsCertifiedBy}
 use Rattle.audit_rules.specs.declared.Head.{Head}
 
 -- the certificates, in order
@@ -92,3 +94,12 @@ setting_over h signature = setting_with h.group h.heal h.me h.authority (indexes
 -- A life may begin: the store keeps an index that the key has.
 abbrev pub MayBegin : Head → Type 0
 MayBegin h = h.stored.next < indexes h
+
+-- ---- what vouches for it
+
+-- The group has rings; the certificates are a kit's, the own one among them; and each verifies under the authority's key, the own one with
+-- this key. No own signature is looked at.
+pub record IsCertifiedHead (h : Head) (own : Key) : Type 0 where
+  pub rings : HasRings (setting_over h (λ index body. []))
+  pub kit : IsKit (setting_over h (λ index body. [])) (certificates_of h)
+  pub certified : AllByRecursion (IsCertifiedBy (setting_over h (λ index body. [])) own) (certificates_of h)

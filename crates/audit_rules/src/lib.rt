@@ -1,5 +1,5 @@
 //! Floor: audit. What a journal is judged by: the head with which an audit begins, which journals are lives of a correct
-//! member from there, and which line goes on with those before it. Definitions alone. An audit cites them.
+//! member from there, and which line goes on with those before it. Definitions alone. `audit` cites them.
 #![tactic(auto)]
 
 use epoch_store::Stored;

@@ -11,6 +11,7 @@ use Rattle.records.specs.declared.Record.{Record}
 use Rattle.records.specs.Keys.{Verifies}
 use Rattle.records.specs.Signing.{CheckedRecord, IsChecked, signed_bytes}
 use Rattle.validate.proofs.VerdictLemmas.{good-verdict}
+use Rattle.sign_keys.specs.Keys.{public_key}
 use Rattle.epoch_store.specs.declared.Stored.{Stored}
 use Rattle.journal.specs.declared.event.Event as journal
 use Rattle.journal.specs.declared.event.What as whats
@@ -30,11 +31,13 @@ use Rattle.turn_rules.specs.Journals.{end_text, life_lines, turn_lines}
 use Rattle.turn_rules.specs.Written.{GivesOf}
 use Rattle.turn_laws.specs.Resting.{MayStart}
 use Rattle.turn_laws.proofs.JournalLemmas.{IsOf, LineRests, course-rests, founded, tells-start}
+use Rattle.node_command.specs.Members.{key_of}
 use Rattle.node_command.proofs.LineLemmas.{accepted-event, expiry-event, removal-event, sent-event, signed-event}
 use Rattle.audit_rules.specs.declared.Head.{Head}
-use Rattle.audit_rules.specs.Heads.{certificates_of, setting_over, setting_with}
+use Rattle.audit_rules.specs.Heads.{IsCertifiedHead, certificates_of, setting_over, setting_with}
 use Rattle.audit_rules.specs.Shown.{IsSource, Source, journal_by, setting_by, start_by}
-use Rattle.shown_laws.specs.Resting.{IsSoundHead, OwnHeadsAreSound, ShownJournalsRest, verify_under}
+use Rattle.shown_laws.specs.Own.{head_of}
+use Rattle.shown_laws.specs.Resting.{OwnHeadsAreCertified, ShownJournalsRest, verify_under}
 
 -- ## The start
 
@@ -61,19 +64,26 @@ all-certified h own signature (x ∷ xs) checked good held = (
   all-certified h own signature xs (λ k d less. checked (suc k) d (omega (arith, less))) good.1 held.1,
 )
 
-may-start : (h : Head) (own : Key) (w : Source) → IsSoundHead h own → IsSource h w → MayStart (verify_under own (setting_by h w)) (setting_by h w) own (certificates_of h) h.stored
+may-start : (h : Head) (own : Key) (w : Source) → IsCertifiedHead h own → IsSource h w → MayStart (verify_under own (setting_by h w)) (setting_by h w) own (certificates_of h) h.stored
 unfolding setting_with
-may-start h own w sound source =
+may-start h own w head source =
     record {
-      rings = record { some = sound.group.some; few = sound.group.few };
-      kit = record { all = apart-certificates (recs_of h.certificates.items) sound.certified.apart; own = sound.certified.among };
-      certified = all-certified h own w.signature h.certificates.items sound.checked sound.certified.verify sound.certified.keys;
+      rings = record { some = head.rings.some; few = head.rings.few };
+      kit = record { all = head.kit.all; own = head.kit.own };
+      certified = head.certified;
       signatures = λ index body claimed within. claimed;
       left = source.begins;
     }
 
-pub own-sound : OwnHeadsAreSound
-own-sound m stored sound = record { group = sound.numbers; checked = sound.checked; certified = sound.certified }
+pub own-certified : OwnHeadsAreCertified
+unfolding setting_with
+own-certified m stored sound =
+    let h : Head = head_of m stored in
+    record {
+      rings = record { some = sound.numbers.some; few = sound.numbers.few };
+      kit = record { all = apart-certificates (recs_of h.certificates.items) sound.certified.apart; own = sound.certified.among };
+      certified = all-certified h (public_key (key_of m)) (λ index body. []) h.certificates.items sound.checked sound.certified.verify sound.certified.keys;
+    }
 
 -- ## The lines
 

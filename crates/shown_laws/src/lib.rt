@@ -4,7 +4,7 @@
 #![tactic(auto)]
 
 ghost use Rattle.shown_laws.specs.Own.{OwnJournalsAreShown};
-ghost use Rattle.shown_laws.specs.Resting.{OwnHeadsAreSound, ShownJournalsRest};
+ghost use Rattle.shown_laws.specs.Resting.{OwnHeadsAreCertified, ShownJournalsRest};
 ghost use Rattle.shown_laws.specs.Runs.{OwnRunsAreShown};
 
 use node_rules::own_records_verify;
@@ -29,8 +29,8 @@ pub fn own_runs_are_shown()
 /// What a journal gives that is Shown rests on a life that began with the head, with no trust in its writer: each removal is that
 /// of a life by its rules, and rests on an accusation that was accepted, verified, and stood for the timeout, or on a leaving note;
 /// each accepted record verifies. Of the member's own signatures it says so of those that verify, as each does that a line shows.
-/// The head is sound, as that of each member is that a text sets up.
+/// The head is certified, as that of each member is that a text sets up.
 pub fn shown_journals_rest()
     ensures rest { ShownJournalsRest }
-    ensures sound { OwnHeadsAreSound }
+    ensures certified { OwnHeadsAreCertified }
 {}

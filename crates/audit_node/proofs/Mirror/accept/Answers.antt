@@ -1,4 +1,4 @@
-use Rattle.std.proofs.Common.{◌≡◌, true, Option, None, ap, subst, sym, ◌∙◌, rules}
+use Rattle.std.proofs.Common.{◌≡◌, true, Option, None, subst, sym, ◌∙◌, rules}
 use Rattle.std.proofs.Common.{ℕ}
 use Rattle.epoch_store.specs.declared.Stored.{Stored}
 use Rattle.rebuttal.specs.Rebuttals.{IsAgainst}
@@ -12,7 +12,6 @@ use Rattle.audit_node.specs.Playing.{Plays}
 use Rattle.records.specs.declared.Record.{Record}
 use Rattle.ff_ids.specs.declared.NoteBody.{NoteBody}
 use Rattle.audit_node.proofs.HandleLemmas.{asked-taken, free-of, ring-in}
-use Rattle.std.proofs.Common.{ap}
 use Rattle.audit_node.proofs.NotedLemmas.{accused-noted, asked-by}
 use Rattle.audit_node.proofs.Mirror.accept.Goals as goal
 
@@ -43,7 +42,7 @@ returns-in-Accusation-clause-plays c = λ s es call p accepted.
     let r : Record = c.args.rec.rec in
     let c1 : Call = takes s r call in
     let a : Body = bodies.Accusation c.in-Accusation.acc in
-    let ran = c.answer.ensures.plays s es c1 r (c.take_accusation.ensures.plays s es call tt p) in
+    let ran = c.answer.ensures.plays s es c1 r (c.take_accusation.ensures.plays s es call (record { body = c.rec-checked.ensures.checked.body; signature = c.rec-checked.ensures.checked.writable.signature }) p) in
     subst
     (λ (b : Body). Plays s es c.answer.new.self (gives_note true s (asked_with s call.node None b r) c1))
     (sym is)

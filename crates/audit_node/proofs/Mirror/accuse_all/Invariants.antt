@@ -1,5 +1,3 @@
-use Rattle.std.proofs.Common.{All, ◌≡◌, ◌++◌, ℕ, List}
-use Rattle.records.specs.Spelling.{HasPort}
 use Rattle.audit_node.specs.Handled.{Accused}
 use Rattle.audit_node.proofs.Mirror.accuse_all.Given as goal
 

@@ -1,6 +1,5 @@
-use Rattle.std.proofs.Common.{◌≡◌, ◌≢◌, Bool, true, Option, None, subst, sym}
+use Rattle.std.proofs.Common.{◌≡◌, ◌≢◌, true, Option, None, subst, sym}
 use Rattle.records.specs.declared.Body.TheVariants as bodies
-use Rattle.node_rules.specs.Calls.{Call}
 use Rattle.node_rules.specs.Deliveries.{asked_with, gives_note}
 use Rattle.audit_node.specs.Playing.{Kept, IsMirror, Plays}
 use Rattle.audit_node.specs.contracts.Mirror.{the_view}
@@ -8,7 +7,6 @@ use Rattle.audit_node.proofs.HandleLemmas.{asked-other, asked-late, answers-is}
 use Rattle.audit_node.proofs.PlayLemmas.{grows-refl}
 use Rattle.audit_node.proofs.PlayLemmas.{from-fine}
 use Rattle.rebuttal.specs.Rebuttals.{answering_mask}
-use Rattle.std.proofs.Common.{refl}
 use Rattle.std.proofs.Common.{rules, Some, ap, ◌∙◌}
 use Rattle.std.proofs.lemmas.Bool.{false≢true}
 use Rattle.ff_ids.specs.Masks.{good_mask, note_mask}

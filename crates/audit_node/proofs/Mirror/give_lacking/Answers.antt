@@ -13,7 +13,7 @@ returns-in-Ok-clause-plays c = λ s es call p.
     given-at s es v c.send_some.new.self call c.args.to c.args.theirs.now c.in-Ok.items.items
     (subst (λ v. Plays s es v call) (sym c.self.view_is) p)
     (subst (λ (w : Kept). Grows w c.send_some.new.self) (sym c.self.view_is) c.send_some.ensures.grows)
-    c.in-Ok.ensures (λ rs are. c.send_some.ensures.plays s es call rs p are)
+    c.in-Ok.ensures (λ rs are can. c.send_some.ensures.plays s es call rs p are can)
 
 pub returns-in-Err-clause-plays : goal.returns-in-Err-clause-plays
 returns-in-Err-clause-plays c = λ s es call p.

@@ -2,9 +2,7 @@ use Rattle.std.proofs.Common.{◌≡◌, ap, ◌∙◌, is_some, filter}
 use Rattle.ff_ids.specs.Views.{all_numbers}
 use Rattle.validate.specs.Certified.{certificate_of}
 use Rattle.audit_node.specs.Playing.{Kept}
-use Rattle.std.proofs.Common.{subst, sym}
 use Rattle.node_rules.specs.Ticking.{gossips}
-use Rattle.audit_node.specs.Playing.{Plays}
 use Rattle.audit_node.specs.contracts.Mirror.{the_view}
 use Rattle.audit_node.proofs.PlayLemmas.{plays-refused}
 use Rattle.audit_node.proofs.Mirror.gossip.Goals as goal

@@ -1,6 +1,5 @@
 use Rattle.records.specs.declared.keys.Key.TheVariants as keys
-use Rattle.std.proofs.Common.{◌≡◌, Bool, true, Option, Some, None, subst, sym, ap, ◌∙◌}
-use Rattle.ff_ids.specs.declared.NoteBody.{NoteBody}
+use Rattle.std.proofs.Common.{◌≡◌, true, Option, Some, None, subst, sym, ap, ◌∙◌}
 use Rattle.records.specs.declared.Record.{Record}
 use Rattle.journal.specs.declared.event.What.TheVariants as told
 use Rattle.node_rules.specs.Nodes.{state_of}

@@ -1,4 +1,4 @@
-use Rattle.std.proofs.Common.{All, ◌≡◌, ◌++◌, ℕ, List}
+use Rattle.std.proofs.Common.{All}
 use Rattle.records.specs.Spelling.{HasPort}
 use Rattle.audit_node.specs.Handled.{Handled}
 use Rattle.audit_node.proofs.Mirror.handle_all.Given as goal

@@ -1,4 +1,4 @@
-use Rattle.std.proofs.Common.{◌≡◌, Ok, List, ap, ◌∙◌, subst, sym, rules}
+use Rattle.std.proofs.Common.{◌≡◌, Ok, List, subst, sym, rules}
 use Rattle.records.specs.declared.Record.{Record}
 use Rattle.datagram.specs.declared.Datagram.TheVariants as kinds
 use Rattle.datagram.specs.Spelling.{HasContent}

@@ -16,7 +16,7 @@ returns-clause-plays c = λ s es call p.
     let p0 = subst (λ v. Plays s es v call) (sym c.self.view_is) p in
     let is = subst (λ v. IsMirror s v call.node) (sym c.self.view_is) at0.is in
     let h = call.node.probes in
-    let at = probed-at s es v call c.pong-counted.new.self (ponged h c.args.from c.args.nonce) p0 (λ n. c.pong-counted.ensures.holds h n.probes) in
+    let at = probed-at s es v call c.pong-counted.new.self (ponged h c.args.from c.args.nonce) p0 (λ n. c.pong-counted.ensures.stands h n.probes) in
     let told_it = c.tell.ensures.plays s es (with_probes (ponged h c.args.from c.args.nonce) call) at in
-    let same = c.pong-counted.ensures.value h is.probes.stands in
+    let same = c.pong-counted.ensures.value h is.probes in
     subst (Plays s es c.tell.new.self) (ap (λ b. tells s (told.Pong c.args.from c.args.nonce b) (with_probes (ponged h c.args.from c.args.nonce) call)) same ∙ sym (ponged-is s c.args.from c.args.nonce call)) told_it)

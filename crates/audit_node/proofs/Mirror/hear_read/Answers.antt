@@ -1,4 +1,4 @@
-use Rattle.std.proofs.Common.{◌≡◌, Ok, Err, refl, ◌∙◌, subst, rules}
+use Rattle.std.proofs.Common.{◌≡◌, Ok, Err, subst, rules}
 use Rattle.records.specs.declared.fault.FormFault.TheVariants as forms
 use Rattle.datagram.specs.Grammar.{GivesDatagram, read_of}
 use Rattle.node_rules.specs.Deliveries.{hears}

@@ -4,7 +4,7 @@ use Rattle.audit_node.specs.contracts.Mirror.{the_view}
 use Rattle.audit_node.specs.Told.{Adds, with_report}
 use Rattle.ff_ids.specs.Steps.{Ticks}
 use Rattle.audit_node.proofs.PlayLemmas.{lives-plays, tick-steps}
-use Rattle.std.proofs.Common.{ap, ◌∙◌}
+use Rattle.std.proofs.Common.{◌∙◌}
 use Rattle.audit_node.proofs.NotedLemmas.{still, newest-same, notes-ended}
 use Rattle.audit_node.proofs.Mirror.live_tick.Goals as goal
 

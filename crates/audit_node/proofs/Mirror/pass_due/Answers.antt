@@ -1,7 +1,7 @@
-use Rattle.std.proofs.Common.{ℕ, Bool, List, ap, sym, subst, ◌∙◌}
+use Rattle.std.proofs.Common.{ℕ, List, ap, sym, subst, ◌∙◌}
 use Rattle.node_rules.specs.Calls.{Call}
 use Rattle.node_rules.specs.Ticking.{accuses_all, pings_all, gossips, spreads}
-use Rattle.audit_node.specs.Playing.{Kept, Plays}
+use Rattle.audit_node.specs.Playing.{Plays}
 use Rattle.audit_node.proofs.PlayLemmas.{grows-trans}
 use Rattle.audit_node.proofs.TickLemmas.{due-is}
 use Rattle.audit_node.proofs.Mirror.pass_due.Goals as goal

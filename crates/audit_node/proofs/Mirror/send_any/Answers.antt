@@ -1,5 +1,4 @@
-use Rattle.std.proofs.Common.{rules, ◌≡◌, ◌≢◌, List, [], ap, map, length, sym, subst, ◌∙◌}
-use Rattle.records.specs.declared.Record.{Record}
+use Rattle.std.proofs.Common.{rules, arith, ◌≡◌, ◌≢◌, [], length, sym, subst}
 use Rattle.audit_node.specs.Owing.{item_of}
 use Rattle.audit_node.specs.Playing.{Plays}
 use Rattle.audit_node.proofs.SpreadLemmas.{some-spread, no-items, some-items}
@@ -7,11 +6,12 @@ use Rattle.node_rules.specs.Ticking.{spreads_all}
 use Rattle.audit_node.proofs.Mirror.send_any.Goals as goal
 
 pub returns-then-not-is_empty-clause-plays : goal.returns-then-not-is_empty-clause-plays
-returns-then-not-is_empty-clause-plays c = λ s es call rs p are.
-    let some : rs ≢ [] = some-items (item_of s) c.args.items.now rs (search rules) are in
-    subst (Plays s es c.send_to_neighbours.new.self) (some-spread s rs call some) (c.send_to_neighbours.ensures.plays s es call rs p are)
+returns-then-not-is_empty-clause-plays c = λ s es call rs p are can.
+    let many : length c.args.items.now ≢ 0 = search rules in
+    let some : rs ≢ [] = some-items (item_of s) c.args.items.now rs many are in
+    subst (Plays s es c.send_to_neighbours.new.self) (some-spread s rs call some) (c.send_to_neighbours.ensures.plays s es call rs p are (can (omega (arith, many))))
 
 pub returns-else-not-is_empty-clause-plays : goal.returns-else-not-is_empty-clause-plays
-returns-else-not-is_empty-clause-plays c = λ s es call rs p are.
+returns-else-not-is_empty-clause-plays c = λ s es call rs p are can.
     let none : rs ≡ [] = no-items (item_of s) c.args.items.now rs (search rules) are in
     subst (λ xs. Plays s es c.args.self.now (spreads_all s xs call)) (sym none) p

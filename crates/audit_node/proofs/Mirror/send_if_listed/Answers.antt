@@ -5,5 +5,5 @@ use Rattle.audit_node.specs.Playing.{Plays}
 use Rattle.audit_node.proofs.Mirror.send_if_listed.Goals as goal
 
 pub returns-then-is_listed-clause-plays : goal.returns-then-is_listed-clause-plays
-returns-then-is_listed-clause-plays c = λ s es call rs p are.
-    subst (λ b. Plays s es c.send_copy.new.self (cond b (sends s (kinds.Records s.me rs) call c.args.to) call)) (sym c.if-is_listed.true ∙ c.is_listed.ensures) (c.send_copy.ensures.plays s es call rs p are)
+returns-then-is_listed-clause-plays c = λ s es call rs p are can.
+    subst (λ b. Plays s es c.send_copy.new.self (cond b (sends s (kinds.Records s.me rs) call c.args.to) call)) (sym c.if-is_listed.true ∙ c.is_listed.ensures) (c.send_copy.ensures.plays s es call rs p are can)

@@ -14,7 +14,7 @@ returns-in-Ok-clause-plays c = λ s es call p.
     let v : Kept = the_view c.self.inside in
     let p0 = subst (λ v. Plays s es v call) (sym c.self.view_is) p in
     page-at s es v c.send.new.self call c.args.to c.args.flag c.args.page c.in-Ok.bytes.items p0 (subst (λ (w : Kept). Grows w c.send.new.self) (sym c.self.view_is) c.send.ensures.grows) c.in-Ok.ensures
-    (λ d e. c.send.ensures.plays s es call d p e)
+    (λ d e bare. c.send.ensures.plays s es call d p e bare)
 
 pub returns-in-Err-clause-plays : goal.returns-in-Err-clause-plays
 returns-in-Err-clause-plays c = λ s es call p.

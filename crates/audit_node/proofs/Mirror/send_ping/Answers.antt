@@ -8,4 +8,4 @@ use Rattle.audit_node.proofs.Mirror.send_ping.Goals as goal
 
 pub returns-clause-plays : goal.returns-clause-plays
 returns-clause-plays c = λ s es call p.
-    sends-plays s es (the_view c.self.inside) call (kinds.Ping s.me c.args.nonce) c.args.to c.now.result (λ k. owings.Ping k c.args.to c.args.nonce) c.send_ping.new.self (subst (λ v. Plays s es v call) (sym c.self.view_is) p) (λ k. refl) c.now.ensures.moment c.send_ping.ensures
+    sends-plays s es (the_view c.self.inside) call (kinds.Ping s.me c.args.nonce) c.args.to c.now.result (λ k. owings.Ping k c.args.to c.args.nonce) c.send_ping.new.self (subst (λ v. Plays s es v call) (sym c.self.view_is) p) (λ k. refl) (λ k. record { sound = tt; named = tt }) c.now.ensures.moment c.send_ping.ensures

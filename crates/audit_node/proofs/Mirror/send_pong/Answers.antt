@@ -1,4 +1,4 @@
-use Rattle.std.proofs.Common.{subst, sym}
+use Rattle.std.proofs.Common.{refl, subst, sym}
 use Rattle.datagram.specs.declared.Datagram.TheVariants as kinds
 use Rattle.datagram.proofs.Sizes.{pong_writable}
 use Rattle.audit_node.specs.Playing.{Kept, Plays, Grows}
@@ -16,7 +16,7 @@ returns-in-Ok-clause-plays c = λ s es call p.
     let v : Kept = the_view c.self.inside in
     let p0 = subst (λ v. Plays s es v call) (sym c.self.view_is) p in
     own-datagram s es v c.send.new.self call c.args.to (λ m. kinds.Pong m c.args.nonce) p0 (subst (λ (w : Kept). Grows w c.send.new.self) (sym c.self.view_is) c.send.ensures.grows)
-    (c.send.ensures.plays s es call (kinds.Pong c.self.inside.me c.args.nonce) p c.in-Ok.ensures)
+    (c.send.ensures.plays s es call (kinds.Pong c.self.inside.me c.args.nonce) p c.in-Ok.ensures refl)
 
 pub returns-clause-plays : goal.returns-clause-plays
 returns-clause-plays c = λ s es call p.

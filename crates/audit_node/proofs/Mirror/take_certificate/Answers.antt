@@ -42,7 +42,7 @@ returns-clause-plays c = λ s es call p free.
           let steps = join-steps c.self.inside.group c.self.inside.membership c.add_member-fault.new.self c.args.cert.member c.hash_places-places.result c.add_member-fault.result
           c.add_member-fault.ensures.fault c.add_member-fault.ensures.step c.add_member-fault.ensures.same in
           let at = quiet-at s es v call (Joins c.args.cert.member c.hash_places-places.result) c.add_member-fault.new.self p1.at steps fine in
-          certified-at s es (record v { membership = c.add_member-fault.new.self }) call c.args.rec c.args.cert c.put-2.new.self c.put.new.self c.requires.certificate c.put-2.ensures c.put.ensures
+          certified-at s es (record v { membership = c.add_member-fault.new.self }) call c.args.rec c.args.cert c.put-2.new.self c.put.new.self c.requires.certificate (record { body = c.rec-checked.ensures.checked.body; signature = c.rec-checked.ensures.checked.writable.signature }) c.put-2.ensures c.put.ensures
           (subst (λ x. IsAt s es (record v { membership = c.add_member-fault.new.self }) (lives s (Joins c.args.cert.member x) call)) places at);
     }
 

@@ -1,4 +1,4 @@
-use Rattle.std.proofs.Common.{◌≡◌, false, ap, refl, subst, sym, ◌∙◌}
+use Rattle.std.proofs.Common.{◌≡◌, false, refl, subst, sym, ◌∙◌}
 use Rattle.std.specs.Prelude.{nat_eq}
 use Rattle.ff_ids.specs.declared.summary.RecordKey.TheVariants as keys
 use Rattle.records.specs.declared.Body.TheVariants as bodies
@@ -14,7 +14,7 @@ pub returns-clause-plays : goal.returns-clause-plays
 returns-clause-plays c = λ s es call p.
     let v : Kept = the_view c.self.inside in
     let kept : Call = keeps s c.args.rec.rec call in
-    let mid = c.accept_note.ensures.plays s es v call c.self.invariant.membership_group refl tt (subst (λ v. Plays s es v call) (sym c.self.view_is) p) in
+    let mid = c.accept_note.ensures.plays s es v call c.self.invariant.membership_group refl (record { body = c.rec-checked.ensures.checked.body; signature = c.rec-checked.ensures.checked.writable.signature }) (subst (λ v. Plays s es v call) (sym c.self.view_is) p) in
     subst (Plays s es c.add_news.new.self) (sym (takes-fresh s c.args.rec.rec (bodies.Note c.args.note) (keys.Note c.args.note.member) call c.requires.note tt refl))
     (c.add_news.ensures.plays s es kept mid)
 

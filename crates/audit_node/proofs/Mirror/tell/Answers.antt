@@ -6,4 +6,4 @@ use Rattle.audit_node.proofs.Mirror.tell.Goals as goal
 
 pub returns-clause-plays : goal.returns-clause-plays
 returns-clause-plays c = λ s es call p.
-    tells-plays s es (the_view c.self.inside) call c.args.what c.now.result c.tell.new.self (subst (λ v. Plays s es v call) (sym c.self.view_is) p) c.now.ensures.moment c.tell.ensures
+    tells-plays s es (the_view c.self.inside) call c.args.what c.now.result c.tell.new.self (subst (λ v. Plays s es v call) (sym c.self.view_is) p) c.now.ensures.moment c.requires c.tell.ensures

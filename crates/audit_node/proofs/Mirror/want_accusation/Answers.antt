@@ -1,6 +1,5 @@
-use Rattle.std.proofs.Common.{◌≡◌, true, false, eqb, Some, ap, refl, sym, subst, arith}
+use Rattle.std.proofs.Common.{◌≡◌, ℕ, true, false, eqb, Some, ap, refl, sym, subst, ◌∙◌, arith}
 use Rattle.std.proofs.lemmas.Bool.Decides.{nat_tests}
-use Rattle.epoch_store.specs.declared.Stored.{Stored}
 use Rattle.records.specs.declared.Body.{Body}
 use Rattle.records.specs.declared.Body.TheVariants as bodies
 use Rattle.audit_node.specs.Playing.{Grows, Kept, Plays}
@@ -22,7 +21,7 @@ returns-clause-plays c = λ s es call p.
     let b : Body = bodies.Accusation c.args.acc.now in
     let left : eqb v.stored.next v.indexes ≡ false = grind (arith, nat_tests, c.if-index-self.false) in
     signed-at s es v c.pass_on_accusation.new.self call b b (Some c.args.acc.now.accused) c.stored_after-self-inside.result v.stored.next
-    (subst (λ v. Plays s es v call) (sym c.self.view_is) p) left refl (λ n. refl) c.stored_after-self-inside.ensures c.pass_on_accusation.ensures.grows
+    (subst (λ v. Plays s es v call) (sym c.self.view_is) p) left refl (λ n. refl) c.stored_after-self-inside.ensures c.accusation_is_spelled.ensures (ap (λ (m : ℕ). Some m) c.requires.by ∙ sym (ap (λ (w : Kept). Some w.me) c.self.view_is)) c.pass_on_accusation.ensures.grows
     (λ q at long. c.pass_on_accusation.ensures.plays s es call q at long)
 
 pub returns-clause-grows : goal.returns-clause-grows

@@ -1,4 +1,4 @@
-use Rattle.std.proofs.Common.{◌≡◌, ◌+◌, ℕ, Bool, true, false, eqb, None, Some, ap, refl, sym, subst, ◌∙◌, arith}
+use Rattle.std.proofs.Common.{◌≡◌, ℕ, true, false, eqb, None, ap, refl, sym, subst, ◌∙◌, arith}
 use Rattle.std.proofs.lemmas.Bool.Decides.{nat_tests}
 use Rattle.epoch_store.specs.declared.Stored.{Stored}
 use Rattle.ff_ids.specs.declared.NoteBody.{NoteBody}
@@ -34,13 +34,13 @@ returns-clause-plays c = λ s es call p.
     let left : eqb v.stored.next v.indexes ≡ false = grind (arith, nat_tests, c.if-index-self.false) in
     signed-at s es v last call b (next_own s call.node c.args.mask) None kept v.stored.next
     (subst (λ v. Plays s es v call) (sym c.self.view_is) p) left refl
-    (λ n. ap (λ (k : ℕ). bodies.Note (note k)) c.new.ensures ∙ next-own-is s v call.node c.args.mask n) c.stored_after-self-inside.ensures
+    (λ n. ap (λ (k : ℕ). bodies.Note (note k)) c.new.ensures ∙ next-own-is s v call.node c.args.mask n) c.stored_after-self-inside.ensures c.note_is_spelled.ensures refl
     (grows-trans w mid last (c.keep_own.ensures.grows w) (grows-trans mid news last c.add_news.ensures.grows c.send_own.ensures.grows))
     (λ q at long.
     let held = c.keep_own.ensures.plays s es w call c.self.invariant.membership_group refl q at long in
     let fresh = c.add_news.ensures.plays s es (keeps s (own_record s call.node b) (spends s b call)) held in
     let done = subst (Plays s es news) (signs-fresh s b (keys.Note v.me) call tt refl) fresh in
-    passed-on s es call b None v.stored.next news last at done (λ x r. c.send_own.ensures.plays s es x r))
+    passed-on s es call b None v.stored.next news last at done (λ x r. c.send_own.ensures.plays s es x v.own_length long r))
 
 pub returns-clause-grows : goal.returns-clause-grows
 returns-clause-grows c =

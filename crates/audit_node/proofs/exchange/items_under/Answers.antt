@@ -1,4 +1,4 @@
-use Rattle.std.proofs.Common.{rules, ◌≡◌, ℕ, ◌+◌, List, ◌∷◌, ◌++◌, Some, None, Vec, ap, ◌∙◌}
+use Rattle.std.proofs.Common.{rules, ◌≡◌, List, Some, None, Vec, ap, ◌∙◌}
 use Rattle.std.specs.Global.{Global}
 use Rattle.ff_ids.specs.declared.summary.RecordKey.{RecordKey}
 use Rattle.record_slots.specs.Held.{held_under}

@@ -3,18 +3,15 @@ use Rattle.signer.specs.Signing.{stored_after}
 use Rattle.records.specs.declared.Body.TheVariants.{Note}
 use Rattle.node_rules.specs.Replies.{first_mask}
 use Rattle.detector.specs.Silence.{nonce}
-use Rattle.std.proofs.Common.{◌≡◌, ◌+◌, ℕ, List, [], ap, refl, sym, subst, ◌∙◌, arith, ◌≤◌, true}
+use Rattle.std.proofs.Common.{◌≡◌, ◌+◌, ℕ, List, ap, sym, subst, ◌∙◌, arith, ◌≤◌, true}
 use Rattle.epoch_store.specs.declared.Stored.{Stored}
 use Rattle.ff_ids.specs.Masks.{good_mask}
-use Rattle.ff_ids.specs.declared.NoteBody.{NoteBody}
 use Rattle.ff_ids.specs.declared.summary.RecordKey.{RecordKey}
-use Rattle.records.specs.declared.Record.{Record}
 use Rattle.node_rules.proofs.Allowed.{good-allowed}
 use Rattle.audit_set.specs.declared.known.Unseen.{Unseen}
 use Rattle.audit_node.specs.declared.starting.Parts.{Parts}
 use Rattle.audit_node.specs.declared.starting.Ready.{Ready}
 use Rattle.audit_node.specs.Begins.{kept_by, kept_in}
-use Rattle.audit_node.specs.Playing.{Kept}
 use Rattle.audit_node.specs.Rolls.{recs_of}
 use Rattle.audit_node.proofs.BeginLemmas.{may-begin, own-joined, own-unnoted}
 use Rattle.audit_node.proofs.CertificateLemmas.{all-certificates}
@@ -41,14 +38,14 @@ returns-clause-ready c =
       detector_group = c.in_ok-roll.ensures.groups.detector;
       within = subst (λ (n : ℕ). n ≤ c.args.kit.indexes) (sym next) left;
       risen = risen;
-      joined = own-joined c.args.kit (nonce c.args.kit.nonce_seed) (recs_of c.args.kit.certificates.items) p c.in_ok-roll.ensures.opened k.certificates.apart k.certificates.among;
+      joined = own-joined c.args.kit (nonce c.args.kit.nonce_seed) (recs_of c.args.kit.certificates.items) p (record { me = c.note_is_spelled.ensures.member_number; own_length = k.own_length }) (c.in_ok-roll.ensures.opened (nonce c.args.kit.nonce_seed)) k.certificates.apart k.certificates.among;
       allowed = good-allowed c.args.kit.group.t c.stored_after-stored.result.mask.0 (subst (λ (m : ℕ). good_mask c.args.kit.group.t m ≡ true) (sym mask) c.first_mask.ensures.good);
       notes = c.in_ok-roll.ensures.notes;
-      newest_own = own-unnoted c.args.kit (nonce c.args.kit.nonce_seed) (recs_of c.args.kit.certificates.items) p c.in_ok-roll.ensures.opened k.certificates.apart;
+      newest_own = own-unnoted c.args.kit (nonce c.args.kit.nonce_seed) (recs_of c.args.kit.certificates.items) p (record { me = c.note_is_spelled.ensures.member_number; own_length = k.own_length }) (c.in_ok-roll.ensures.opened (nonce c.args.kit.nonce_seed)) k.certificates.apart;
     }
 
 pub returns-clause-begins : goal.returns-clause-begins
-returns-clause-begins c = λ s setting.
+returns-clause-begins c = λ s nonces setting.
     let p : Parts = c.in_ok-roll.field-0 in
     let r : Ready =
     record {
@@ -78,4 +75,5 @@ returns-clause-begins c = λ s setting.
     ap (λ (e : ℕ). record { member = c.args.kit.me; epoch = e; mask = c.first_mask.result }) c.new.ensures
     ∙ ap (λ (m : ℕ). record { member = c.args.kit.me; epoch = c.args.kit.stored.epoch + 1; mask = record { 0 = m } }) c.first_mask.ensures.value in
     let index : r.own.index ≡ c.args.kit.stored.next = search in
-    may-begin s (nonce c.args.kit.nonce_seed) (recs_of c.args.kit.certificates.items) c.args.kit r p setting c.in_ok-roll.ensures.opened kept stored note index long
+    let body : r.own.body ≡ Note r.note = ap (λ (o : Unseen). o.body) c.own_of-own.ensures in
+    may-begin s nonces (recs_of c.args.kit.certificates.items) c.args.kit r p (record { me = c.note_is_spelled.ensures.member_number; own_length = c.requires.kit.own_length }) setting (c.in_ok-roll.ensures.opened nonces) kept stored note index long body c.note_is_spelled.ensures

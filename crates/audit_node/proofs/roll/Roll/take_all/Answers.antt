@@ -7,7 +7,7 @@ use Rattle.records.specs.Signing.{CheckedRecord}
 use Rattle.node_rules.specs.Nodes.{certificate_of}
 use Rattle.audit_node.specs.Playing.{IsAt}
 use Rattle.audit_node.specs.Rolls.{with_roll, AreApart, AreNew, takes_all, IsOfOther}
-use Rattle.audit_node.proofs.RollLemmas.{recs, new-push, after-push, same-certificate, nil-end, at-behind, zero-empty, IsFresh, fresh-at_first, fresh-behind}
+use Rattle.audit_node.proofs.RollLemmas.{recs, new-push, after-push, same-certificate, nil-end, zero-empty, IsFresh, fresh-at_first, fresh-behind}
 use Rattle.std.specs.List.{AllByRecursion}
 use Rattle.audit_node.proofs.roll.Roll.take_all.Goals as goal
 

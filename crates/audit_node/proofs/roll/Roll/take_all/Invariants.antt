@@ -1,4 +1,4 @@
-use Rattle.std.proofs.Common.{◌≡◌, ℕ, false, List, ◌++◌}
+use Rattle.std.proofs.Common.{◌≡◌, false, List, ◌++◌}
 use Rattle.journal.specs.declared.event.Event as journal
 use Rattle.records.specs.declared.Record.{Record}
 use Rattle.node_rules.specs.Nodes.{Setting}
